@@ -1,0 +1,4 @@
+pub mod BoolLemmas
+pub mod DigitLemmas
+pub mod PieceLemmas
+pub mod TrafficLemmas

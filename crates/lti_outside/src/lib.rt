@@ -1,0 +1,32 @@
+//! The outside as the other crates see it: plain values, the ends of a connection with counts of their
+//! faults, and the limits of a run.
+//!
+//! Each value is seen by contracts as a list. An end of a connection may tell its bytes, and then each
+//! call says what it took and gave; a fault is answered only where its count rose.
+#![tactic(auto)]
+
+mod bytes;
+mod decimal;
+mod ends;
+mod limits;
+mod memory_link;
+mod memory_sink;
+mod memory_source;
+mod no_memory;
+mod pairs;
+mod std_ends;
+#[cfg(test)]
+mod tests;
+mod text;
+
+pub use bytes::Bytes;
+pub use decimal::read_decimal;
+pub use ends::{Link, Outside, ReadFault, Sink, Source, WriteFault, give_all};
+pub use limits::Limits;
+pub use memory_link::MemoryLink;
+pub use memory_sink::MemorySink;
+pub use memory_source::MemorySource;
+pub use no_memory::NoMemory;
+pub use pairs::{Pair, Pairs};
+pub use std_ends::{StdLink, StdSink, StdSource};
+pub use text::Text;
