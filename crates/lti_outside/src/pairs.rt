@@ -1,5 +1,6 @@
 // Names with values, in order.
-ghost use Rattle.std.specs.Prelude.{◌≡◌, List, [], ◌∷◌, ◌++◌, ◌==◌, length, OnOk, OnErr, IfOk, slice_get};
+ghost use Rattle.std.specs.Prelude.{◌≡◌, List, [], ◌∷◌, ◌++◌, ◌==◌, length, filter, not, OnOk, OnErr, IfOk, slice_get};
+ghost use Rattle.std.specs.Str.{bytes_eq};
 ghost use Rattle.std.specs.Option.{option_copied};
 
 use crate::{NoMemory, Text};
@@ -31,6 +32,13 @@ pub struct Pairs {
     pairs: Vec<Pair>,
 }
 
+// Whether the pair has this name.
+fn is_named(pair: &Pair, name: &str) -> bool
+    ensures { result ≡ bytes_eq pair.now.name name.now }
+{
+    pair.name.get() == name
+}
+
 impl Model for Pairs {
     ghost use Rattle.std.specs.Prelude.{List};
     ghost use Rattle.lti_outside.specs.declared.pairs.Pair.{Pair};
@@ -57,6 +65,25 @@ impl Pairs {
     {
         self.pairs.push(pair)?;
         Ok(())
+    }
+
+    /// Appends all pairs of `other`. On `NoMemory` nothing was appended.
+    pub fn append(&mut self, other: Pairs) -> Result<(), NoMemory>
+        ensures ok { OnOk result (self.new ≡ self.old ++ other) }
+        ensures err { OnErr result (self.new ≡ self.old) }
+    {
+        let mut other = other.pairs;
+        self.pairs.append(&mut other)?;
+        Ok(())
+    }
+
+    /// The pairs of other names, in order.
+    pub fn without(self, name: &str) -> Pairs
+        ensures { result ≡ filter (λ pair. not (bytes_eq pair.name name.now)) self }
+    {
+        let mut pairs = self.pairs;
+        pairs.retain(|pair| !is_named(pair, name));
+        Pairs { pairs }
     }
 
     /// How many pairs there are.
