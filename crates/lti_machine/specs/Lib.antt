@@ -1,0 +1,4 @@
+pub mod Nonces
+pub mod Rules
+pub mod Sound
+pub mod Kept
