@@ -1,8 +1,8 @@
 // The rules over the list of accepted entries.
-ghost use Rattle.std.specs.Prelude.{◌≡◌, ◌≤◌, ◌<◌, ◌^◌, max, [], ◌∷◌, ◌++◌, false, length, count_by, OnOk, OnErr};
+ghost use Rattle.std.specs.Prelude.{◌≡◌, ◌≤◌, max, [], ◌∷◌, ◌++◌, false, length, count_by, OnOk, OnErr};
 ghost use Rattle.lti_machine.specs.Rules.{high};
 ghost use Rattle.lti_machine.specs.Nonces as nonces;
-ghost use Rattle.lti_machine.specs.Kept.{NoRepeats, IsKept};
+ghost use Rattle.lti_machine.specs.Kept.{IsKept};
 
 use crate::call::Call;
 use crate::entry::Entry;
