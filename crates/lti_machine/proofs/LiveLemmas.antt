@@ -40,7 +40,7 @@ list_any-insert_stamp s t (u ∷ ts) =
     (λ _. refl)
     (λ _. ap (λ x. same_stamp s u || x) (list_any-insert_stamp s t ts) ∙ or_swap (same_stamp s u) (same_stamp s t) (list_any (same_stamp s) ts))
 
-same_from_test : (s t : Stamp) → same_stamp s t ≡ true → s ≡ t
+pub same_from_test : (s t : Stamp) → same_stamp s t ≡ true → s ≡ t
 same_from_test s t same =
     let numbers : (s.timestamp == t.timestamp) ≡ true = first_so (s.timestamp == t.timestamp) (bytes_eq s.nonce t.nonce) same in
     let number : s.timestamp ≡ t.timestamp = grind (arith, nat_tests) in
@@ -105,7 +105,7 @@ count_step e es rest key now b front adds =
 
 -- ---- lists without repeats
 
-is_of_key_parts : (key : List ℕ) (e : Entry) → is_of_key key e ≡ true → (is_signed e ≡ true) × (e.key ≡ key)
+pub is_of_key_parts : (key : List ℕ) (e : Entry) → is_of_key key e ≡ true → (is_signed e ≡ true) × (e.key ≡ key)
 is_of_key_parts key e h = (first_so (is_signed e) (bytes_eq e.key key) h, (bytes_decides e.key key).0 (second_so (is_signed e) (bytes_eq e.key key) h))
 
 and_drop : (a m b : Bool) → (a && b) ≡ false → ((a && m) && b) ≡ false

@@ -8,6 +8,7 @@
 
 mod call;
 mod entry;
+mod places;
 mod reply;
 mod rules;
 mod solo;

@@ -5,33 +5,38 @@ ghost use Rattle.lti_machine.specs.Sound.{IsSound};
 
 use crate::call::{Action, Call};
 use crate::entry::{Effect, Entry};
+use crate::places::Places;
 use crate::reply::Reply;
 use crate::rules;
 use crate::verdict::Verdict;
 use lti_outside::Limits;
 use std::alloc::Global;
+use std::collections::HashMap;
 use std::marker::Model;
 
 /// The machine with all that it ever accepted, in order, in one list of at most 2^32 - 1 entries.
 ///
-/// A call costs one pass over the list, and a second one where the list is as long as the window.
+/// A call costs one look-up by the hash of its key, timestamp and nonce. It costs a pass over the list where
+/// an entry with other ones has that hash, which is seldom, and one where the list is at least as long as
+/// the window.
 #[derive(Drop)]
 pub struct Solo {
     entries: Vec<Entry>,
+    places: Places,
     highest: u64,
 }
 
 impl Model for Solo {
-    ghost use Rattle.std.specs.Prelude.{◌≡◌, List};
+    ghost use Rattle.std.specs.Prelude.{List, nat_eq};
+    ghost use Rattle.std.specs.HashMap.{get};
     ghost use Rattle.lti_machine.specs.declared.entry.Entry.{Entry};
-    ghost use Rattle.lti_machine.specs.Rules.{high};
-    ghost use Rattle.lti_machine.specs.Kept.{IsKept};
+    ghost use Rattle.lti_machine.specs.Kept.{IsHeld};
 
     ghost Value = { List Entry };
 
     ghost view = { λ s. s.entries.items };
 
-    ghost invariant = { λ s. IsKept s.entries.items × (s.highest ≡ high s.entries.items) };
+    ghost invariant = { λ s. IsHeld s.entries.items (get nat_eq s.places) s.highest };
 }
 
 impl Solo {
@@ -41,6 +46,7 @@ impl Solo {
     {
         Solo {
             entries: Vec::new(alloc),
+            places: HashMap::new(alloc),
             highest: 0,
         }
     }
@@ -55,7 +61,7 @@ impl Solo {
         ensures kept { self.new ≡ after self.old call result }
     {
         let now = call.moment.max(self.highest);
-        match rules::judge(&self.entries, &call, now, limits.window) {
+        match rules::judge(&self.entries, &self.places, &call, now, limits.window) {
             Verdict::New => {}
             Verdict::Outside => return Reply::Outside { now },
             Verdict::Used => return Reply::Used,
@@ -71,7 +77,7 @@ impl Solo {
             nonce: call.nonce,
             effect,
         };
-        match rules::keep(&mut self.entries, entry) {
+        match rules::keep(&mut self.entries, &mut self.places, entry) {
             Ok(()) => {
                 self.highest = now;
                 reply
