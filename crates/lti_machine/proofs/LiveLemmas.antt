@@ -1,4 +1,4 @@
--- How many live stamps a list has, entry by entry.
+-- How many live stamps a list has: entry by entry, and by a count where nothing repeats.
 use Rattle.std.proofs.Common.{max, ◌≡◌, ◌≤◌, ℕ, suc, ◌+◌, ◌/◌, nat_le, count_by, true≢false, Bool, true, false, cond, not, ◌&&◌, ◌||◌, ◌==◌, List, [], ◌∷◌, ◌++◌, length, refl, sym, ap, ◌∙◌, ⊎_elim, arith, bytes_eq, is_le}
 use Rattle.std.specs.Cmp.{first_so, second_so}
 use Rattle.std.specs.List.{list_any}
@@ -98,11 +98,6 @@ length-live-le [] key now = unfold live in omega arith
 length-live-le (e ∷ es) key now =
     omega (arith, length-live-cons e es key now, cond_le (adds_one e es key now), length-live-le es key now)
 
--- a step of a count that goes from the front
-pub count_step : (e : Entry) (es rest : List Entry) (key : List ℕ) (now : ℕ) (b : Bool) → rest ≡ e ∷ es → adds_one e es key now ≡ b → length (live rest key now) ≡ cond b 1 0 + length (live es key now)
-count_step e es rest key now b front adds =
-    ap (λ xs. length (live xs key now)) front ∙ length-live-cons e es key now ∙ ap (λ x. cond x 1 0 + length (live es key now)) adds
-
 -- ---- lists without repeats
 
 pub is_of_key_parts : (key : List ℕ) (e : Entry) → is_of_key key e ≡ true → (is_signed e ≡ true) × (e.key ≡ key)
@@ -117,7 +112,7 @@ and_drop true false b h = refl
 stands_live-false : (es : List Entry) (key : List ℕ) (now : ℕ) (s : Stamp) → stands es key s ≡ false → stands_live es key now s ≡ false
 stands_live-false [] key now s none = refl
 stands_live-false (e ∷ es) key now s none =
-    let parts = or_parts (is_of_key key e && same_stamp s (stamp_of e)) (stands es key s) none in
+    let parts = or_parts (uses key s e) (stands es key s) none in
     or_from (is_live key now e && same_stamp s (stamp_of e)) (stands_live es key now s)
     (and_drop (is_of_key key e) (nat_le (now / 60) (e.timestamp / 60 + 90)) (same_stamp s (stamp_of e)) parts.0)
     (stands_live-false es key now s parts.1)
@@ -145,22 +140,22 @@ same_itself s =
     let nonces = (bytes_decides s.nonce s.nonce).1 refl in
     λ i. numbers i && nonces i
 
-flipped : (x e : Entry) → (is_of_key e.key x && same_stamp (stamp_of e) (stamp_of x)) ≡ false → (is_of_key x.key e && same_stamp (stamp_of x) (stamp_of e)) ≡ true → ⊥
+flipped : (x e : Entry) → uses e.key (stamp_of e) x ≡ false → uses x.key (stamp_of x) e ≡ true → ⊥
 flipped x e other h =
     let parts = is_of_key_parts x.key e (first_so (is_of_key x.key e) (same_stamp (stamp_of x) (stamp_of e)) h) in
     let stamps = same_from_test (stamp_of x) (stamp_of e) (second_so (is_of_key x.key e) (same_stamp (stamp_of x) (stamp_of e)) h) in
     let signed : is_signed x ≡ true = ap (λ s. not (length s.nonce == 0)) stamps ∙ parts.0 in
     let keys : bytes_eq x.key e.key ≡ true = (bytes_decides x.key e.key).1 (sym parts.1) in
     let same : same_stamp (stamp_of e) (stamp_of x) ≡ true = ap (λ s. same_stamp (stamp_of e) s) stamps ∙ same_itself (stamp_of e) in
-    let both : (is_of_key e.key x && same_stamp (stamp_of e) (stamp_of x)) ≡ true = λ i. (signed i && keys i) && same i in
+    let both : uses e.key (stamp_of e) x ≡ true = λ i. (signed i && keys i) && same i in
     true≢false (sym both ∙ other)
 
 pub NoRepeats-push : (es : List Entry) (e : Entry) → NoRepeats es → stands es e.key (stamp_of e) ≡ false → NoRepeats (es ++ e ∷ [])
 unfolding NoRepeats
 NoRepeats-push [] e alone none = (refl, tt)
 NoRepeats-push (x ∷ es) e alone none =
-    let parts = or_parts (is_of_key e.key x && same_stamp (stamp_of e) (stamp_of x)) (stands es e.key (stamp_of e)) none in
-    let last = false_from_ne_true (is_of_key x.key e && same_stamp (stamp_of x) (stamp_of e)) (flipped x e parts.0) in
+    let parts = or_parts (uses e.key (stamp_of e) x) (stands es e.key (stamp_of e)) none in
+    let last = false_from_ne_true (uses x.key (stamp_of x) e) (flipped x e parts.0) in
     (list_any-append (uses x.key (stamp_of x)) es (e ∷ []) ∙ or_from _ _ alone.0 (or_from _ false last refl), NoRepeats-push es e alone.1 parts.1)
 
 -- ---- the greatest moment
