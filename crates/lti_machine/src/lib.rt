@@ -1,0 +1,23 @@
+//! The machine that accepts signed calls: a list of what it accepted, and rules that are filters of it.
+//!
+//! OAuth 1.0 (RFC 5849 section 3.3) has each nonce used once with its timestamp and its key. How far a
+//! timestamp may be off, when a nonce is forgotten and how many a key may have are this project's own
+//! rules, and no statement of that standard. Each reply is promised to be the one that the rules decide
+//! over the whole list; only want of memory may stand in place of an acceptance.
+#![tactic(auto)]
+
+mod call;
+mod entry;
+mod places;
+mod reply;
+mod rules;
+mod solo;
+#[cfg(test)]
+mod tests;
+mod verdict;
+
+pub use call::{Action, Call, GREATEST_MOMENT};
+pub use entry::{Effect, Entry};
+pub use reply::Reply;
+pub use solo::Solo;
+pub use verdict::Verdict;
