@@ -1,16 +1,17 @@
 -- A list that nowhere descends is told by how often it holds each member, so pairs have at most one normal form.
-use Rattle.std.proofs.Common.{◌≡◌, ◌↔◌, IsTrue, subst, nat_eq, ◌<◌, ℕ, suc, ◌+◌, Bool, true, false, cond, ◌&&◌, List, [], ◌∷◌, get_or, refl, sym, ap, ◌∙◌, arith, count_by, Less, Equal, Greater, Ordering, is_lt, nat_cmp}
+use Rattle.std.proofs.Common.{◌≡◌, ◌↔◌, IsTrue, subst, nat_eq, ◌<◌, ℕ, suc, ◌+◌, Bool, true, false, cond, ◌&&◌, List, [], ◌∷◌, get_or, map, length, refl, sym, ap, ◌∙◌, arith, count_by, Less, Equal, Greater, Ordering, is_lt, nat_cmp}
 use Rattle.std.specs.List.{AllByRecursion}
-use Rattle.std.specs.List.Sorted.{IsSorted}
+use Rattle.std.specs.List.Sorted.{IsSorted, IsSortedByKey, IsPermutation}
 use Rattle.std.specs.Cmp.{IsTotalOrder}
 use Rattle.std.specs.Ordering.{ordering_reverse, ordering_then, is_eq}
 use Rattle.std.specs.Cmp.{then_total, on_total}
 use Rattle.std.specs.Cmp.Lexicographic.{pointwise, slice_cmp, nat_list_cmp_total, texts_ties, bytes_decides}
 use Rattle.lti_outside.specs.declared.pairs.Pair.{Pair}
-use Rattle.oauth_text.specs.Normal.{joined, pair_cmp, same_pair, IsNormal}
+use Rattle.oauth_text.specs.Normal.{escaped_pair, joined, pair_cmp, same_pair, copies, IsOrderOf, IsNormal}
+use Rattle.std.proofs.lemmas.List.{get_or-map, length-map}
 use Rattle.std.proofs.lemmas.List.Elements.{All-from_get_or, recursion_from_All}
 use Rattle.std.proofs.lemmas.List.Sums.{sum_by-cons}
-use Rattle.std.proofs.lemmas.List.Sorted.{sorted_far, ranks_by}
+use Rattle.std.proofs.lemmas.List.Sorted.{sorted_far, ranks_by, IsPermutation-map, sum_by-IsPermutation}
 
 module _ {X : Type 0} {R : X → X → Ordering} {E : X → X → Bool} (order : IsTotalOrder R) (same : (x y : X) → R x y ≡ Equal → x ≡ y) (itself : (x : X) → E x x ≡ true) (apart : (x y : X) → R x y ≡ Less → E x y ≡ false) where
   -- what stands behind the first member isn't below it
@@ -106,3 +107,17 @@ pub normal_once : (ps : List Pair) (t u : List ℕ) → IsNormal ps t → IsNorm
 normal_once ps t u a b =
     let one = told_by_counts pair_total pair_from_tie pair_itself pair_apart b.order a.order b.order_of.rises a.order_of.rises (λ p. b.order_of.same p ∙ sym (a.order_of.same p)) in
     b.is ∙ ap joined one ∙ sym a.is
+
+-- what stands in order by its pair is, as pairs, in order
+rises_mapped : {X : Type 0} (f : X → Pair) (xs : List X) → IsSortedByKey f pair_cmp xs → IsSorted pair_cmp (map f xs)
+rises_mapped f [] up = λ k d low high. absurd (omega arith)
+rises_mapped f (x ∷ xs) up = λ k d low high.
+    let within : k + 1 < length (x ∷ xs) = omega (arith, length-map (x ∷ xs) f) in
+    rw (get_or-map f (x ∷ xs) (k + 1) x d within, get_or-map f (x ∷ xs) k x d (omega arith)) (up k x (omega arith) within)
+
+-- a sort of what stands for the escaped pairs gives their order
+pub order_from_sort : {X : Type 0} (f : X → Pair) (xs ys : List X) (ps : List Pair) → map f xs ≡ map escaped_pair ps → IsPermutation xs ys → IsSortedByKey f pair_cmp ys → IsOrderOf ps (map f ys)
+order_from_sort f xs ys ps made moved up = record {
+  same = λ p. sum_by-IsPermutation (λ q. cond {A = ℕ} (same_pair p q) 1 0) (map f xs) (map f ys) (IsPermutation-map f xs ys moved) ∙ ap (copies p) made;
+  rises = rises_mapped f ys up;
+}

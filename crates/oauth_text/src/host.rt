@@ -135,7 +135,7 @@ fn lower(alloc: Global, name: &[u8]) -> Result<Text, NoMemory>
 {
     let mut text = String::from_str(alloc, ascii_str(name))?;
     text.make_ascii_lowercase();
-    Text::new(alloc, &text)
+    Ok(Text::from_string(text))
 }
 
 /// The host that the bytes are.

@@ -1,72 +1,92 @@
-//! The normal form of a list of parameters.
-ghost use Rattle.std.specs.Prelude.{◌≡◌, ◌++◌, ◌∷◌, ℕ, List, map, IfOk, OnOk};
+//! The normal form of a list of parameters (RFC 5849, section 3.4.1.3.2).
+ghost use Rattle.std.specs.Prelude.{◌≡◌, ◌++◌, ℕ, List, map, IfOk, OnOk};
+ghost use Rattle.std.specs.String.{string_bytes};
+ghost use Rattle.oauth_text.specs.Escaped.{pair_of};
 ghost use Rattle.oauth_text.specs.Normal.{escaped_pair, pair_text, joined, IsOrderOf, IsNormal};
 
-use crate::escapes::escape;
+use crate::escapes::escaped;
 use lti_outside::{NoMemory, Pair, Pairs, Text};
-use std::alloc::Global;
+use std::alloc::{AllocError, Global};
+use std::borrow::CowStr;
+
+/// A parameter with its name and its value escaped, each borrowed where nothing needs an escape.
+#[derive(PartialEq, Eq, PartialOrd, Ord, Drop)]
+struct Escaped<'a> {
+    name: CowStr<'a, Global>,
+    value: CowStr<'a, Global>,
+}
 
 // Each pair with its name and its value escaped.
-fn escaped_pairs(alloc: Global, pairs: &[Pair]) -> Result<Vec<Pair>, NoMemory>
-    ensures { IfOk result (λ escaped. escaped.items ≡ map escaped_pair pairs.now) }
+fn escaped_pairs(alloc: Global, pairs: &[Pair]) -> Result<Vec<Escaped<'_>>, NoMemory>
+    ensures { IfOk result (λ made. map pair_of made.items ≡ map escaped_pair pairs.now) }
 {
-    let mut escaped = Vec::new(alloc);
+    let mut made = Vec::with_capacity(alloc, pairs.len())?;
     for pair in pairs {
-        let name = escape(alloc, pair.name.get())?;
-        let value = escape(alloc, pair.value.get())?;
-        if escaped.push(Pair { name, value }).is_err() {
-            return Err(NoMemory);
-        }
+        let name = escaped(alloc, pair.name.get())?;
+        let value = escaped(alloc, pair.value.get())?;
+        made.push(Escaped { name, value })?;
     }
+    Ok(made)
+}
+
+// The escaped pairs in order.
+fn ordered_pairs(alloc: Global, pairs: &[Pair]) -> Result<Vec<Escaped<'_>>, NoMemory>
+    ensures { IfOk result (λ order. IsOrderOf pairs.now (map pair_of order.items)) }
+{
+    let mut escaped = escaped_pairs(alloc, pairs)?;
+    escaped.sort_unstable();
     Ok(escaped)
 }
 
+// How long the pairs' text is, or the greatest number where it is longer.
+fn joined_len(pairs: &[Escaped<'_>]) -> usize {
+    pairs.iter().fold(0usize, |len, pair| {
+        len.saturating_add(pair.name.len())
+            .saturating_add(pair.value.len())
+            .saturating_add(2)
+    })
+}
+
 // Appends the name, `=` and the value.
-fn push_pair(text: &mut Text, pair: &Pair) -> Result<(), NoMemory>
-    ensures { OnOk result (text.new ≡ text.old ++ pair_text pair.now) }
+fn push_pair(text: &mut String, pair: &Escaped<'_>) -> Result<(), AllocError>
+    ensures { OnOk result (string_bytes text.new ≡ string_bytes text.old ++ pair_text (pair_of pair.now)) }
 {
-    text.push(pair.name.get())?;
-    text.push("=")?;
-    text.push(pair.value.get())
+    text.push_str(pair.name.as_str())?;
+    text.push_str("=")?;
+    text.push_str(pair.value.as_str())
 }
 
 // The pairs' texts, with `&` between them.
-fn joined_text(alloc: Global, pairs: &[Pair]) -> Result<Text, NoMemory>
-    ensures { IfOk result (λ text. text ≡ joined pairs.now) }
+fn joined_text(alloc: Global, pairs: &[Escaped<'_>]) -> Result<String, AllocError>
+    ensures { IfOk result (λ text. string_bytes text ≡ joined (map pair_of pairs.now)) }
 {
-    let mut text = Text::empty(alloc);
+    let mut text = String::with_capacity(alloc, joined_len(pairs))?;
     let Some((first, others)) = pairs.split_first() else {
         return Ok(text);
     };
     push_pair(&mut text, first)?;
     for pair in others {
-        text.push("&")?;
+        text.push_str("&")?;
         push_pair(&mut text, pair)?;
     }
     Ok(text)
 }
 
-// Each pair escaped, in order.
-pub(crate) fn sorted_pairs(alloc: Global, pairs: &Pairs) -> Result<Vec<Pair>, NoMemory>
-    ensures { IfOk result (λ order. IsOrderOf pairs.now order.items) }
-{
-    let mut escaped = escaped_pairs(alloc, pairs.as_slice())?;
-    escaped.sort()?;
-    Ok(escaped)
-}
-
 // The escaped pairs in order, joined by `=` and `&`.
-fn sorted_text(alloc: Global, pairs: &Pairs) -> Result<Text, NoMemory>
+fn ordered_text(alloc: Global, pairs: &Pairs) -> Result<Text, NoMemory>
     ensures { IfOk result (IsNormal pairs.now) }
 {
-    joined_text(alloc, &sorted_pairs(alloc, pairs)?)
+    let order = ordered_pairs(alloc, pairs.as_slice())?;
+    Ok(Text::from_string(joined_text(alloc, &order)?))
 }
 
-/// The normal form of the pairs, of which there is only one.
+/// The normal form of the parameters (RFC 5849, section 3.4.1.3.2), of which there is only one: each name and
+/// value escaped, in byte order of the escaped names and, among equal names, of the escaped values, joined by `=`
+/// and `&`. Equal pairs are all kept. No pairs give the empty text.
 pub fn normalised(alloc: Global, pairs: &Pairs) -> Result<Text, NoMemory>
     ensures normal { IfOk result (IsNormal pairs.now) }
     ensures only { IfOk result (λ text. (other : List ℕ) → IsNormal pairs.now other → other ≡ text) }
 {
-    let text = sorted_text(alloc, pairs)?;
+    let text = ordered_text(alloc, pairs)?;
     Ok(text)
 }
