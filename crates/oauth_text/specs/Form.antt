@@ -1,4 +1,6 @@
--- The pairs of a form text.
+-- The pairs of a form text (URL Standard, section 5.1). `raw_pairs` cuts the text at each `&`, drops empty pieces, and
+-- cuts each piece at its first `=` into a name and a value, of which the value is empty where there is no `=`. `decode`
+-- reads `+` as a space and `%HH`, with hexadecimal digits in either case, as a byte; any other byte is itself.
 use Rattle.std.specs.Prelude.{ℕ, ◌<◌, List, [], ◌∷◌, map, IsUtf8, All, ⊤}
 use Rattle.form_urlencoded.specs.Form.{decode, raw_pairs}
 use Rattle.lti_outside.specs.declared.pairs.Pair.{Pair}
@@ -16,11 +18,11 @@ abbrev pub AreTexts : List Raw → Type 0
 AreTexts [] = ⊤
 AreTexts (raw ∷ raws) = (IsUtf8 (decode raw.0) × IsUtf8 (decode raw.1)) × AreTexts raws
 
--- the form has pairs
+-- the text is a form: each decoded name and value is UTF-8
 abbrev pub IsForm : List ℕ → Type 0
 IsForm form = AreTexts (raw_pairs form)
 
--- the pairs between the `&`, in order; an empty piece is no pair
+-- the pairs of the form, in order, decoded
 abbrev pub pairs_of : List ℕ → List Pair
 pairs_of form = map decoded (raw_pairs form)
 

@@ -1,4 +1,5 @@
--- Hosts: a name, and a port where one is given.
+-- Hosts with their ports (RFC 3986, section 3.2.2 and 3.2.3, with the bytes of a name bounded): a name, or an address
+-- between brackets, and a port where one is written.
 use Rattle.std.specs.Prelude.{ℕ, ◌+◌, ◌-◌, ◌≡◌, Bool, true, false, min, ◌&&◌, ◌||◌, ◌==◌, nat_le, List, [], ◌∷◌, length, take, drop, map, slice_index, if◌then◌else◌, Option, None, Some}
 use Rattle.std.specs.List.{list_all, position_or_len}
 use Rattle.std.specs.Char.{is_ascii_alphanumeric, is_ascii_hexdigit, to_ascii_lowercase}
@@ -13,15 +14,16 @@ is_name_byte b = is_ascii_alphanumeric b || b == 45 || b == 46 || b == 95
 abbrev pub is_address_byte : ℕ → Bool
 is_address_byte b = is_ascii_hexdigit b || b == 58 || b == 46
 
+-- 1 to 255 bytes of a name
 abbrev pub is_plain_name : List ℕ → Bool
 is_plain_name name = nat_le 1 (length name) && nat_le (length name) 255 && list_all is_name_byte name
 
--- 1 to 45 such bytes, and `]`
+-- 1 to 45 bytes of an address, and `]`
 abbrev pub is_closed : List ℕ → Bool
 is_closed rest = nat_le 2 (length rest) && nat_le (length rest) 46 && slice_index rest (length rest - 1) == 93
     && list_all is_address_byte (take (length rest - 1) rest)
 
--- 1 to 45 such bytes between `[` and `]`
+-- 1 to 45 bytes of an address between `[` and `]`
 abbrev pub is_address : List ℕ → Bool
 is_address [] = false
 is_address (first ∷ rest) = first == 91 && is_closed rest

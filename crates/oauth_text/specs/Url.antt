@@ -1,4 +1,5 @@
--- URLs: a scheme, a host, a path and a query.
+-- URLs (RFC 3986, section 3, with the schemes `http` and `https` alone, without user information and fragment): a
+-- scheme, a host, a path and a query.
 use Rattle.std.specs.Prelude.{◌≡◌, ◌+◌, ℕ, Bool, true, ◌&&◌, ◌||◌, ◌==◌, nat_le, List, [], ◌∷◌, length, take, drop, map, codes, if◌then◌else◌, Option}
 use Rattle.std.specs.List.{list_all, list_any, position_or_len}
 use Rattle.std.specs.Char.{is_ascii_alphanumeric, to_ascii_lowercase}

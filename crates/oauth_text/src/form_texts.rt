@@ -1,4 +1,4 @@
-//! The form text of pairs.
+//! The form text of pairs (URL Standard, section 5.2).
 ghost use Rattle.std.specs.Prelude.{◌≡◌, IfOk, OnOk};
 ghost use Rattle.form_urlencoded.specs.Form.{append_pair};
 ghost use Rattle.oauth_text.specs.Form.{IsForm, AreText, pairs_of};
@@ -15,7 +15,8 @@ fn append(form: &mut Serializer<Global>, name: &str, value: &str) -> Result<(), 
     form.append_pair(name, value)
 }
 
-/// A form text of the pairs: the pairs of it are the same.
+/// A form text of the pairs (URL Standard, section 5.2, `application/x-www-form-urlencoded`): `pairs` of it gives
+/// the same list. A space is written as `+`.
 pub fn form_text(alloc: Global, pairs: &Pairs) -> Result<Bytes, NoMemory>
     ensures form { IfOk result (λ form. IsForm form.list) }
     ensures pairs { IfOk result (λ form. pairs_of form.list ≡ pairs.now) }

@@ -1,4 +1,4 @@
-// Hosts.
+// Hosts with their ports.
 ghost use Rattle.std.specs.Prelude.{◌≡◌, ◌≤◌, ◌==◌, ℕ, List, false, true, take, drop, map, length, IfOk, IsErrOf, MatchOption};
 ghost use Rattle.std.specs.Char.{to_ascii_lowercase};
 ghost use Rattle.std.specs.List.{list_all, position, position_or_len};
@@ -9,10 +9,12 @@ use lti_outside::{NoMemory, Text, read_decimal};
 use percent_encoding::ascii_str;
 use std::alloc::{AllocError, Global};
 
-/// Why a text is no host.
+/// Why a text was read as no host.
 #[derive(Clone, Copy, Debug, PartialEq, Eq)]
 pub enum HostFault {
+    /// The name is empty, too long or has a byte that can't stand in it, or what follows isn't `:` and a port.
     BadHost,
+    /// There was no memory for the name, and the text may be a host.
     NoMemory,
 }
 
@@ -36,10 +38,13 @@ impl From<AllocError> for HostFault {
     }
 }
 
-/// A host: a name in lower case, and a port where one was given.
+/// A host with its port, as a URL or a `Host` header names it (RFC 3986, section 3.2). Every value is the
+/// reading of some text.
 #[derive(Drop)]
 pub struct Host {
+    /// The name in lower case, with its brackets where it is an address between brackets.
     pub name: Text,
+    /// The port from 1 to 65535, where one was written.
     pub port: Option<u16>,
     pub ghost reading: { ∥ ((text : List ℕ) × IsHostOf text name port) ∥₁ },
 }
@@ -92,7 +97,7 @@ fn first_place(byte: u8, text: &[u8]) -> Option<usize>
 }
 
 // The first place of the byte, or the length.
-pub fn place_of(byte: u8, text: &[u8]) -> usize
+pub(crate) fn place_of(byte: u8, text: &[u8]) -> usize
     ensures place { result ≡ position_or_len (λ b. b == byte) text.now }
     ensures bound { result ≤ length text.now }
 {
@@ -138,8 +143,8 @@ fn lower(alloc: Global, name: &[u8]) -> Result<Text, NoMemory>
     Ok(Text::from_string(text))
 }
 
-/// The host that the bytes are.
-pub fn host_of(alloc: Global, text: &[u8]) -> Result<Host, HostFault>
+// The host that the bytes are.
+pub(crate) fn host_of(alloc: Global, text: &[u8]) -> Result<Host, HostFault>
     ensures found { IfOk result (λ host. IsHostOf text.now host.name host.port) }
     ensures bad { IsErrOf result HostFault.BadHost → spec.is_host text.now ≡ false }
 {
@@ -161,7 +166,9 @@ impl Host {
     ghost use Rattle.oauth_text.specs.Host as spec;
     ghost use Rattle.oauth_text.specs.Host.{IsHostOf};
 
-    /// The host that the text is.
+    /// The host that the text is: a name, then nothing or `:` and a port. The name is 1 to 255 letters, digits,
+    /// `-`, `.` and `_`, or 1 to 45 hexadecimal digits, `:` and `.` between `[` and `]`, and is kept in lower case.
+    /// The port is a number from 1 to 65535 without a leading zero.
     pub fn read(alloc: Global, text: &str) -> Result<Host, HostFault>
         ensures found { IfOk result (λ host. IsHostOf text.now host.name host.port) }
         ensures bad { IsErrOf result HostFault.BadHost → spec.is_host text.now ≡ false }

@@ -1,7 +1,8 @@
-// URLs.
-ghost use Rattle.std.specs.Prelude.{◌≡◌, ◌==◌, ◌||◌, ◌≤◌, ◌+◌, false, true, take, drop, length, codes, IfOk, IsErrOf, MatchOption};
+// URLs with a scheme, a host, a path and a query.
+ghost use Rattle.std.specs.Prelude.{ℕ, List, ◌≡◌, ◌==◌, ◌||◌, ◌≤◌, ◌+◌, false, true, take, drop, length, codes, IfOk, IsErrOf, MatchOption};
 ghost use Rattle.std.specs.List.{list_all, list_any, position, position_or_len};
 ghost use Rattle.oauth_text.specs.Url as spec;
+ghost use Rattle.oauth_text.specs.Url.{IsUrl, UrlParts};
 
 use crate::forms::{FormFault, pairs};
 use crate::host::{Host, HostFault, host_of, place_of};
@@ -12,14 +13,19 @@ use std::alloc::Global;
 /// How a URL is reached.
 #[derive(Clone, Copy, Debug, PartialEq, Eq)]
 pub enum Scheme {
+    /// Plain HTTP, by default at port 80.
     Http,
+    /// HTTP over TLS, by default at port 443.
     Https,
 }
 
-/// Why a text is no URL.
+/// Why a text was read as no URL.
 #[derive(Clone, Copy, Debug, PartialEq, Eq)]
 pub enum UrlFault {
+    /// The text has another scheme, a bad host, a byte that can't stand in a path or a query, or a query whose
+    /// decoded names and values aren't UTF-8.
     BadUrl,
+    /// There was no memory for the parts, and the text may be a URL.
     NoMemory,
 }
 
@@ -46,13 +52,17 @@ impl From<HostFault> for UrlFault {
     }
 }
 
-/// A scheme, a host, a path and a query.
+/// An absolute URL with the scheme `http` or `https`. Every value is the reading of some text.
 #[derive(Drop)]
 pub struct Url {
     pub scheme: Scheme,
     pub host: Host,
+    /// The path as it was written, which begins with `/`.
     pub path: Text,
+    /// What follows the `?` as it was written, or nothing. It is a form text.
     pub query: Text,
+    pub ghost reading: { ∥ ((text : List ℕ)
+        × IsUrl text (record { scheme = scheme; name = host.name; port = host.port; path = path; query = query })) ∥₁ },
 }
 
 impl Url {
@@ -60,33 +70,48 @@ impl Url {
     ghost use Rattle.oauth_text.specs.UrlView.{parts_of};
     ghost use Rattle.oauth_text.specs.Url.{IsUrl, UrlParts};
 
-    /// The URL that the text is.
+    /// The URL that the text is: `http://` or `https://` in any case, a host, then nothing or a path that begins
+    /// with `/`, then nothing or `?` and a query. An absent path is `/`. Letters, digits and
+    /// ``%-._~:/?@!$&'()*+,;=[]`` may stand in the path and the query, so there is no fragment.
     pub fn read(alloc: Global, text: &str) -> Result<Url, UrlFault>
         ensures found { IfOk result (λ url. IsUrl text.now (parts_of url)) }
         ensures bad { IsErrOf result UrlFault.BadUrl → (parts : UrlParts) → IsUrl text.now parts → ⊥ }
     {
-        let text = text.as_bytes();
-        let Some((scheme, rest)) = split_scheme(text) else {
-            return Err(UrlFault::BadUrl);
-        };
-        let (name, target) = rest.split_at(len_of_host(rest));
-        let host = host_of(alloc, name)?;
-        if !are_target_bytes(target) {
-            return Err(UrlFault::BadUrl);
+        match read_parts(alloc, text.as_bytes()) {
+            Ok((scheme, host, path, query)) => Ok(Url {
+                scheme,
+                host,
+                path,
+                query,
+            }),
+            Err(fault) => Err(fault),
         }
-        let (path, query) = split_target(target);
-        match pairs(alloc, query) {
-            Ok(_) => {}
-            Err(FormFault::BadForm) => return Err(UrlFault::BadUrl),
-            Err(FormFault::NoMemory) => return Err(UrlFault::NoMemory),
-        }
-        Ok(Url {
-            scheme,
-            host,
-            path: Text::new(alloc, ascii_str(path))?,
-            query: Text::new(alloc, ascii_str(query))?,
-        })
     }
+}
+
+// The scheme, the host, the path and the query of the URL that the bytes are.
+fn read_parts(alloc: Global, text: &[u8]) -> Result<(Scheme, Host, Text, Text), UrlFault>
+    ensures found { IfOk result (λ (scheme, host, path, query). IsUrl text.now
+        (record { scheme = scheme; name = host.name; port = host.port; path = path; query = query })) }
+    ensures bad { IsErrOf result UrlFault.BadUrl → (parts : UrlParts) → IsUrl text.now parts → ⊥ }
+{
+    let Some((scheme, rest)) = split_scheme(text) else {
+        return Err(UrlFault::BadUrl);
+    };
+    let (name, target) = rest.split_at(len_of_host(rest));
+    let host = host_of(alloc, name)?;
+    if !are_target_bytes(target) {
+        return Err(UrlFault::BadUrl);
+    }
+    let (path, query) = split_target(target);
+    match pairs(alloc, query) {
+        Ok(_) => {}
+        Err(FormFault::BadForm) => return Err(UrlFault::BadUrl),
+        Err(FormFault::NoMemory) => return Err(UrlFault::NoMemory),
+    }
+    let path = Text::new(alloc, ascii_str(path))?;
+    let query = Text::new(alloc, ascii_str(query))?;
+    Ok((scheme, host, path, query))
 }
 
 fn begins(front: &[u8], text: &[u8]) -> bool

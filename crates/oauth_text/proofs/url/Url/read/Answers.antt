@@ -1,6 +1,7 @@
-use Rattle.std.proofs.Common.{◌∙◌, sym}
-use Rattle.oauth_text.proofs.TargetLemmas.{IsAscii-query}
 use Rattle.oauth_text.proofs.url.Url.read.Goals as goal
 
-pub ascii_str-requires-2 : goal.ascii_str-requires-2
-ascii_str-requires-2 c = rw c.split_target.ensures.query (IsAscii-query c.split_at.result.1.now (sym c.are_target_bytes.ensures ∙ c.if-not-are_target_bytes.false))
+pub invariant_of-result : goal.invariant_of-result
+invariant_of-result c = record { reading = ∣ (c.as_bytes.result.now, c.in-Ok.ensures.found) ∣₁ }
+
+pub returns-in-Err-clause-bad : goal.returns-in-Err-clause-bad
+returns-in-Err-clause-bad c = λ fault parts is. c.in-Err.ensures.bad (cc) parts (rw c.as_bytes.ensures.value is)
