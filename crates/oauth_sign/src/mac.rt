@@ -1,4 +1,4 @@
-//! HMAC-SHA1 over a message that comes in pieces.
+//! HMAC-SHA1 (RFC 2104) over a message that comes in pieces.
 ghost use Rattle.std.specs.Prelude.{◌≡◌, ℕ, List, [], ◌++◌, ◌≤◌, map, drop, length, bit_xor};
 ghost use Rattle.oauth_sign.specs.Hmac as spec;
 ghost use Rattle.sha1.specs.Sha1 as digest;
@@ -7,7 +7,11 @@ use sha1::Sha1;
 
 const BLOCK_LEN: usize = 64;
 
-/// A code under way: `start` with a key, a `feed` for each piece, and `finish`.
+const INNER_PAD: u8 = 0x36;
+
+const OUTER_PAD: u8 = 0x5C;
+
+/// A code under way: `start` with a key, a `feed` for each piece of the message, and `finish`. It takes no memory.
 #[derive(Drop)]
 pub struct Mac {
     inner: Sha1,
@@ -22,7 +26,7 @@ fn put_front(block: &mut [u8], bytes: &[u8])
     block[..bytes.len()].copy_from_slice(bytes);
 }
 
-// The key, filled up with zeros to a block.
+// The key, or its digest where it is longer than a block, filled up with zeros to a block.
 fn key_block(key: &[u8]) -> [u8; BLOCK_LEN]
     ensures { result ≡ spec.key_block key.now }
 {
@@ -44,14 +48,14 @@ fn turn(bytes: &mut [u8], bits: u8)
     }
 }
 
-// A message that begins with the key's block, these bits of each byte turned.
-fn begun(key: &[u8], bits: u8) -> Sha1
-    ensures { digest.Holds result (spec.padded_key bits key.now) }
+// A digest under way that was fed the block with these bits of each byte turned.
+fn begun(block: &[u8; BLOCK_LEN], bits: u8) -> Sha1
+    ensures { digest.Holds result (map (bit_xor bits) block.now) }
 {
-    let mut block = key_block(key);
-    turn(&mut block, bits);
+    let mut padded = *block;
+    turn(&mut padded, bits);
     let mut hasher = Sha1::new();
-    hasher.update(&block);
+    hasher.update(&padded);
     hasher
 }
 
@@ -59,23 +63,24 @@ impl Mac {
     ghost use Rattle.std.specs.Prelude.{◌≡◌, ℕ, List, [], ◌++◌};
     ghost use Rattle.oauth_sign.specs.Hmac as spec;
 
-    /// The code of the empty message under a key.
+    /// The code of the empty message under a key of any length.
     pub fn start(key: &[u8]) -> Mac
         ensures { spec.Holds result key.now [] }
     {
-        let inner = begun(key, 0x36);
-        let outer = begun(key, 0x5C);
+        let block = key_block(key);
+        let inner = begun(&block, INNER_PAD);
+        let outer = begun(&block, OUTER_PAD);
         Mac { inner, outer }
     }
 
-    /// Adds a piece to the message.
+    /// Adds a piece to the message. Where pieces end makes no difference to the code.
     pub fn feed(&mut self, piece: &[u8])
         ensures { spec.Feeds self.old self.new piece.now }
     {
         self.inner.update(piece);
     }
 
-    /// The code of the message.
+    /// The code of the message that was fed.
     pub fn finish(self) -> [u8; 20]
         ensures { (k m : List ℕ) → spec.Holds self k m → result ≡ spec.hmac k m }
     {

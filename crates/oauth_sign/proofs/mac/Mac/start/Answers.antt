@@ -4,4 +4,4 @@ use Rattle.oauth_sign.proofs.mac.Mac.start.Goals as goal
 
 pub returns : goal.returns
 unfolding Holds
-returns c = rw append-nil (c.begun-inner.ensures, c.begun-outer.ensures)
+returns c = rw (append-nil, ← c.key_block-block.ensures) (c.begun-inner.ensures, c.begun-outer.ensures)
