@@ -1,4 +1,4 @@
--- The hash of a body (OAuth Request Body Hash, draft 4, section 3.2).
+-- The hash of a body (OAuth Request Body Hash 1.0, draft 4).
 use Rattle.std.specs.Prelude.{ℕ, List}
 use Rattle.base64.specs.Engines.{standard}
 use Rattle.base64.specs.GeneralPurpose.{encode_of}

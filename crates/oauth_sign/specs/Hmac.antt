@@ -1,4 +1,4 @@
--- HMAC-SHA1 (RFC 2104 over FIPS 180-4) on whole lists of bytes.
+-- HMAC-SHA1 (RFC 2104, section 2, over the SHA-1 of FIPS 180-4) on whole lists of bytes.
 use Rattle.std.specs.Prelude.{ℕ, ◌-◌, List, ◌++◌, map, length, replicate, nat_lt, bit_xor, if◌then◌else◌}
 use Rattle.sha1.specs.Sha1 as digest
 use Rattle.oauth_sign.specs.declared.mac.Mac.{Mac}

@@ -1,4 +1,4 @@
-//! The hash of a body that comes in pieces (OAuth Request Body Hash, draft 4, section 3.2).
+//! The hash of a body that comes in pieces (OAuth Request Body Hash 1.0, draft 4).
 ghost use Rattle.std.specs.Prelude.{◌≡◌, IfOk};
 ghost use Rattle.base64.specs.Engines.{standard};
 ghost use Rattle.base64.specs.GeneralPurpose.{encode_of};

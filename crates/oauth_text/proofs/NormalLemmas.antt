@@ -1,11 +1,11 @@
 -- A list that nowhere descends is told by how often it holds each member, so pairs have at most one normal form.
-use Rattle.std.proofs.Common.{◌≡◌, ◌↔◌, IsTrue, subst, nat_eq, ◌<◌, ℕ, suc, ◌+◌, Bool, true, false, cond, ◌&&◌, List, [], ◌∷◌, get_or, map, length, refl, sym, ap, ◌∙◌, arith, count_by, Less, Equal, Greater, Ordering, is_lt, nat_cmp}
+use Rattle.std.proofs.Common.{◌≡◌, ◌<◌, ℕ, suc, ◌+◌, Bool, true, false, cond, ◌&&◌, List, [], ◌∷◌, get_or, map, length, refl, sym, ap, ◌∙◌, arith, count_by, Less, Equal, Greater, Ordering, is_lt, nat_cmp}
 use Rattle.std.specs.List.{AllByRecursion}
 use Rattle.std.specs.List.Sorted.{IsSorted, IsSortedByKey, IsPermutation}
 use Rattle.std.specs.Cmp.{IsTotalOrder}
 use Rattle.std.specs.Ordering.{ordering_reverse, ordering_then, is_eq}
 use Rattle.std.specs.Cmp.{then_total, on_total}
-use Rattle.std.specs.Cmp.Lexicographic.{pointwise, slice_cmp, nat_list_cmp_total, texts_ties, bytes_decides}
+use Rattle.std.specs.Cmp.Lexicographic.{slice_cmp, nat_list_cmp_total, texts_ties, bytes_decides}
 use Rattle.lti_outside.specs.declared.pairs.Pair.{Pair}
 use Rattle.oauth_text.specs.Normal.{escaped_pair, joined, pair_cmp, same_pair, copies, IsOrderOf, IsNormal}
 use Rattle.std.proofs.lemmas.List.{get_or-map, length-map}
