@@ -7,7 +7,7 @@ ghost use Rattle.oauth_text.specs.Host.{IsHostOf};
 
 use lti_outside::{NoMemory, Text, read_decimal};
 use percent_encoding::ascii_str;
-use std::alloc::{AllocError, Global};
+use std::alloc::Global;
 
 /// Why a text was read as no host.
 #[derive(Clone, Copy, Debug, PartialEq, Eq)]
@@ -24,16 +24,6 @@ impl From<NoMemory> for HostFault {
     ghost from_gives = { λ _ e. e ≡ NoMemory };
 
     fn from(_: NoMemory) -> Self {
-        HostFault::NoMemory
-    }
-}
-
-impl From<AllocError> for HostFault {
-    ghost use Rattle.oauth_text.specs.declared.host.HostFault.TheVariants.{NoMemory};
-
-    ghost from_gives = { λ _ e. e ≡ NoMemory };
-
-    fn from(_: AllocError) -> Self {
         HostFault::NoMemory
     }
 }
