@@ -15,6 +15,7 @@ mod memory_source;
 mod no_memory;
 mod pairs;
 mod std_ends;
+mod tap;
 #[cfg(test)]
 mod tests;
 mod text;
@@ -29,4 +30,5 @@ pub use memory_source::MemorySource;
 pub use no_memory::NoMemory;
 pub use pairs::{Pair, Pairs};
 pub use std_ends::{StdLink, StdSink, StdSource};
+pub use tap::Tap;
 pub use text::Text;

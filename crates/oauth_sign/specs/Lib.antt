@@ -1,0 +1,4 @@
+pub mod BaseUri
+pub mod Body
+pub mod Hmac
+pub mod Signature

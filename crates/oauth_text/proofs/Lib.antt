@@ -1,0 +1,6 @@
+pub mod EscapeLemmas
+pub mod FormTexts
+pub mod HostLemmas
+pub mod PlaceLemmas
+pub mod TargetLemmas
+pub mod NormalLemmas
