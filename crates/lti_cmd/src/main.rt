@@ -1,0 +1,74 @@
+//! The program: its words, its real ends, and its status.
+//!
+//! All that it does is `lti_server::run`, over standard input and output. Here stand only the texts of
+//! `--help` and `--version`, and what is printed for a status.
+#![tactic(auto)]
+
+use lti_outside::{Limits, StdLink};
+use lti_server::run;
+use std::process::ExitCode;
+use std::rt::Env;
+use std::{env, io};
+
+const USAGE: &str = "\
+lti_cmd check URL KEY SECRET MOMENT
+    reads signed launch forms, one a line, and prints a verdict for each:
+    accepted, bad form, bad signature, outside N, used or window full
+lti_cmd --help
+lti_cmd --version
+
+URL       the address that the forms are posted to, as https://tool.example/lti/launch
+KEY       the consumer key, 1 to 255 bytes
+SECRET    the key's secret
+MOMENT    the time of the check, in seconds since 1970, 1 to 15 digits
+";
+
+const VERSION: &str = "lti_cmd 0.1.0\n";
+
+// What is printed for a status.
+fn words_of(status: u8) -> &'static str {
+    match status {
+        2 => "usage",
+        4 => "read fault",
+        5 => "write fault",
+        8 => "want of memory",
+        14 => "refused message",
+        _ => "unknown status",
+    }
+}
+
+// The words of the command line, without the program's name.
+fn words(rt: &(impl Env + AllocGlobal)) -> io::Result<Vec<String>> {
+    let mut words = Vec::new(rt.alloc());
+    for word in env::args(rt)?.skip(1) {
+        words.push(word)?;
+    }
+    Ok(words)
+}
+
+// Whether this one word was given.
+fn is_word(words: &[String], word: &str) -> bool {
+    words.len() == 1 && words[0].as_str() == word
+}
+
+fn main(rt: HostRuntime) -> ExitCode {
+    let Ok(words) = words(&rt) else {
+        let _ = eprint!(rt; "{}\n{USAGE}", words_of(2));
+        return ExitCode::from(2);
+    };
+    let status = if is_word(&words, "--help") {
+        print!(rt; "{USAGE}").map_or(5, |()| 0)
+    } else if is_word(&words, "--version") {
+        print!(rt; "{VERSION}").map_or(5, |()| 0)
+    } else {
+        let mut ends = StdLink::new(rt.reader(), io::writer(&rt));
+        run(rt.alloc(), &words, &mut ends, &Limits::usual())
+    };
+    if status != 0 {
+        let _ = eprintln!(rt; "{}", words_of(status));
+    }
+    if status == 2 {
+        let _ = eprint!(rt; "{USAGE}");
+    }
+    ExitCode::from(status)
+}

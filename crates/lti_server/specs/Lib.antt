@@ -1,0 +1,11 @@
+pub mod Lines
+pub mod Protocol
+pub mod Found
+pub mod Command
+pub mod CommandView
+pub mod Checked
+pub mod CheckerView
+pub mod Verdicts
+pub mod SoFar
+pub mod Status
+pub mod Ending

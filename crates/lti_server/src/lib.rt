@@ -1,0 +1,22 @@
+//! The commands of the program, over any link (this project's own, over RFC 5849 and LTI 1.1.1).
+//!
+//! `run` does what the words of the command line ask and answers the status. Of each command its contract
+//! says which bytes were read and written, by what the status says, however the input was cut into pieces.
+//!
+//! - `command`: the words; `check`: the command over a link; `answered`: the lines in whatever pieces;
+//! - `checker`: which kind of request a form is; `protocol`: its protocol parameters; `verdict`: what is
+//!   written; `stop`: why a command ended before its work was done.
+#![tactic(auto)]
+
+mod answered;
+mod check;
+mod checker;
+mod command;
+mod protocol;
+mod stop;
+#[cfg(test)]
+mod tests;
+mod top;
+mod verdict;
+
+pub use top::run;
