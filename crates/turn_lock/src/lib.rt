@@ -12,6 +12,8 @@ mod lock;
 mod pass;
 mod plays;
 mod rule;
+#[cfg(test)]
+mod tests;
 mod turns;
 mod view;
 

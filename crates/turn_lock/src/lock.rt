@@ -19,6 +19,10 @@ use std::snapshot::Snapshot;
 use std::sync::Wait;
 
 /// Keeps a value. Those who have a pass take turns at it.
+///
+/// A lock is shared by reference between threads. What it keeps is known again once it is closed; where that can
+/// be dropped, so can the lock.
+#[derive(Drop)]
 pub struct TurnLock<K: Kept> {
     table: Table<K, View<K::Job, K::Answer, K>, Terms<K>, InTurn, Global>,
 }
