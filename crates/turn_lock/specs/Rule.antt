@@ -1,5 +1,15 @@
--- The rule of the two words and the slot: what holds between any two steps.
+-- The rule: what holds between any two steps.
 -- Word 0 is the next ticket and word 1 the ticket that is served, both modulo 2^64. The slot keeps the value. A view is what one pass knows.
+--
+-- 1. The next ticket is the ticket that is served and as many as are out. The tickets of passes differ, and lie between the two (`words_are`, `counted`, `tickets`).
+-- 2. Who is called has the ticket that is served, so one pass at most is called (`own_turn`).
+-- 3. What a pass has seen begins the trail (`seen_is`). So of any two passes one has seen all that the other has.
+-- 4. Where no pass is called, the value is in its slot: it has counted the turns that are over, and its trail is the trail (`slot`, `Ready`).
+-- 5. Where one is called, its seat has the value, and the slot has none. The pass has seen the trail as it was when its turn came (`slot`, `knows`).
+-- 6. The raise of the ticket that is served brings the value back too. So between no two steps is a turn over and the value out, or the value back and the turn not over.
+-- 7. A pass's own places lie inside what it has seen. Each place of the trail is an own place of one number in one pass, so some pass has seen the whole trail.
+--    Each number from 0 to the first spare stands in one pass, as one that it answers for or as a spare one (`inside`, `places`, `numbers`, `sized`).
+-- 8. All passes that aren't spent began with one value and one first spare, and the value keeps the origin and the limit that it had then (`of`, `Ready`).
 use Rattle.std.specs.Prelude.{◌≡◌, ℕ, ◌+◌, ◌%◌, ◌^◌, ◌≤◌, ◌⊎◌, List, [], ◌∷◌, length, Some}
 use mathlib.Core.Option.{Option, some, none}
 use lib.ListN.{get_elem?}
@@ -13,19 +23,14 @@ use Rattle.turn_lock.specs.Views.{ticketed, has_ticket, called, size}
 
 -- One view, where so many turns are over and the trail is this
 pub record Fits {J A K : Type 0} (base : K) (first served : ℕ) (trail : List (J × A)) (v : View J A K) : Type 0 where
-  -- Who is called has the ticket that is served. So one at most is called, since tickets differ
   pub own_turn : called v.phase ≤ has_ticket served v.phase
-  -- What was seen begins the trail. So of any two passes, one has seen all that the other has
   pub seen_is : StartsWith trail v.seen
-  -- Who is called has seen the whole trail
   pub knows : called v.phase ≡ 1 → v.seen ≡ trail
-  -- A pass's own places lie inside what it has seen
   pub inside : (p : ℕ) → length v.seen ≤ p → in_places p v.own ≡ 0
-  -- Who has a ticket answers for a number. So there are no more tickets than numbers
+  -- who has a ticket answers for a number, so no more tickets are out than there are numbers
   pub answers : ticketed v.phase ≤ length v.own
-  -- All passes that aren't spent are of one lock
   pub of : (b : K) → v.base ≡ Some b → (b ≡ base) × (v.first ≡ first)
-  -- What the pass that was met into this one last had seen, if that is the shorter, begins the trail too, and one of the two had no spare number
+  -- of a pass and the one that was met into it last: what the one had seen that had seen less begins the trail too, and one of the two had no spare number
   pub met_is : StartsWith trail v.met_seen
   pub met_none : (v.met_spare ≡ 0) ⊎ (v.met_spare ≡ v.spare)
 
@@ -48,16 +53,11 @@ module _ {J A K O : Type 0} (means : Ghosts K J A O) where
     pub out : ℕ
     pub trail : List (J × A)
     pub few : first ≤ 64
-    -- The next ticket is the one that is served and those that are out behind it, of which each is out with one pass
     pub words_are : s.words ≡ (served + out) % 2 ^ 64 ∷ served % 2 ^ 64 ∷ []
     pub counted : total (λ v. ticketed v.phase) s.views ≡ out
     pub tickets : (t : ℕ) → total (λ v. has_ticket t v.phase) s.views + once_below t served ≡ once_below t (served + out)
-    -- Each view fits the turns that are over and the trail
     pub each : (id : ℕ) (v : View J A K) → get_elem? s.views id ≡ some v → Fits base first served trail v
-    -- The value is in its slot, or out with the one who is called
     pub slot : Slot base served trail s.homes (total (λ v. called v.phase) s.views)
-    -- Each place of the trail is an own place of one number in one pass, and so some pass has seen the whole trail
     pub places : (p : ℕ) → total (λ v. in_places p v.own) s.views ≡ once_below p (length trail)
-    -- Each number from 0 to the first spare stands in one pass, as one that it answers for or as a spare one
     pub numbers : (k : ℕ) → total (λ v. in_numbers k v.own + in_spare k v.spare) s.views ≡ once_below k (first + 1)
     pub sized : total size s.views ≡ first + 1
