@@ -40,7 +40,8 @@ impl<K: Kept> Model for TurnLock<K> {
 
 impl<K: Kept> TurnLock<K> {
     /// Makes a lock of `kept`, whose trail is empty, and the first pass, which has number 0 and the spare
-    /// numbers from 1 to `spare`. `Err` hands `kept` back for want of memory.
+    /// numbers from 1 to `spare`, so that `spare` further passes can be split off. `Err` hands `kept` back for
+    /// want of memory.
     pub fn new(alloc: Global, kept: K, spare: u32) -> Result<(TurnLock<K>, Pass<K>), K>
         requires spare { spare ≤ 64 }
         requires trail { K.trail kept ≡ [] }
@@ -79,11 +80,12 @@ impl<K: Kept> TurnLock<K> {
         }
     }
 
-    /// Takes one turn: the value answers `job`, between the turns of all others. It waits, asleep, until its
-    /// turn comes, which nothing promises.
+    /// Takes one turn: the value answers `job`, and nobody else's. It waits, asleep, until its turn comes, which
+    /// nothing promises.
     ///
     /// Afterwards the pass has seen the trail as this turn left it, which begins with what the pass had seen
-    /// before.
+    /// before. The last member is this job with this answer, at a place of the pass's own, unless the answer
+    /// refuses because the trail is full.
     pub fn turn<R: Wait>(&self, rt: &R, pass: &mut Pass<K>, job: K::Job) -> K::Answer
         requires pass { IsPassOf self.now pass.old }
         requires job { K.accepts job }
@@ -134,7 +136,7 @@ impl<K: Kept> TurnLock<K> {
     }
 
     /// Hands the value back. The pass is whole, so no other pass is left, and it has seen the whole trail; each
-    /// place there is an own place of one of its numbers.
+    /// place there is an own place of one of its numbers, and of one alone.
     pub fn close(self, pass: Pass<K>) -> K
         requires pass { IsPassOf self pass }
         requires whole { numbers pass ≡ pass.first + 1 }

@@ -12,8 +12,8 @@ use std::marker::Model;
 /// there of its own calls.
 ///
 /// A pass has a number, which no other pass of the lock has, and may have spare numbers for further passes. It
-/// answers for its own number and for those of the passes that were met into it. A pass may be dropped; no other
-/// pass is whole from then on, and the lock can't be closed.
+/// answers for its own number and for those of the passes that were met into it. A pass may be dropped, and then
+/// no pass is ever whole again and the lock can't be closed.
 pub struct Pass<K: Kept> {
     pub(crate) seat: LockSeat<K>,
     pub(crate) number: u32,

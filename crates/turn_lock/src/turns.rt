@@ -20,8 +20,8 @@ fn draw<K: Kept>(words: &Words<K>, seat: &mut LockSeat<K>) -> u64
     words.fetch_add::<Draw>(seat, TICKET, 1)
 }
 
-// Looks until the ticket is served, and then has the value. Between two looks it sleeps, unless the word has
-// changed since the look.
+// Looks until the ticket is served, and then has the value. Between two looks it sleeps, and only if the word
+// still is what the look found: a turn that ends in between has changed it, so that its wake isn't missed.
 fn await_turn<K: Kept, R: Wait>(rt: &R, words: &Words<K>, seat: &mut LockSeat<K>, ticket: u64)
     requires words { (words.now.table_id.words ≡ 2) × (words.now.table_id.slots ≡ 1) }
     requires seat { (seat.old.table_id ≡ words.now.table_id) × Waits seat.old.me ticket }
@@ -48,7 +48,7 @@ fn answer<K: Kept>(words: &Words<K>, seat: &mut LockSeat<K>, job: K::Job) -> K::
     seat.slot_mut(words, VALUE).answer(job)
 }
 
-// Gives the value back, and wakes those who wait.
+// Gives the value back, and wakes all who wait, since only one of them has the ticket that is served now.
 fn end<K: Kept>(words: &Words<K>, seat: &mut LockSeat<K>)
     requires words { (words.now.table_id.words ≡ 2) × (words.now.table_id.slots ≡ 1) }
     requires seat { seat.old.table_id ≡ words.now.table_id }
