@@ -44,8 +44,8 @@ module _ {J A K : Type 0} where
   abbrev pub AreApart : Token J A K → Token J A K → Type 0
   AreApart pass other = (k : ℕ) → stands k pass + stands k other ≤ once_below k (pass.first + 1)
 
--- A turn. When it came the trail was `front`, which begins with all that the pass had seen. The answer was added to it, and the pass has seen the trail that this makes.
--- A new member's place joins the places of the pass's own number
+-- A turn. When it came the trail was `front`, which begins with all that the pass had seen. The answer was added to it, unless it refuses, and the pass has seen
+-- the trail that this makes. A new member's place joins the places of the pass's own number
 pub record Answers {J A : Type 0} (refused : Bool) (limit : ℕ) (job : J) (answer : A) (seen : List (J × A)) (own : List OwnPlaces) (seen' : List (J × A)) (own' : List OwnPlaces) : Type 0 where
   pub front : List (J × A)
   pub goes_on : StartsWith front seen
