@@ -1,0 +1,10 @@
+pub mod Totals
+pub mod Numbering
+pub mod Rested
+pub mod Opening
+pub mod Drawing
+pub mod Looking
+pub mod Turning
+pub mod Ending
+pub mod Meeting
+pub mod Closing
