@@ -8,21 +8,21 @@ use Rattle.oauth_text.specs.Escape.{escape}
 use Rattle.oauth_text.specs.Normal.{IsNormal}
 use Rattle.oauth_sign.specs.Hmac.{hmac}
 
--- the method in upper case, the escaped address and the escaped normal form, with `&` between them
+-- the method in upper case, the escaped base string URI and the escaped normal form, with `&` between them (section 3.4.1.1)
 abbrev pub base_text : List ℕ → List ℕ → List ℕ → List ℕ
 base_text method uri normal = str_to_ascii_uppercase method ++ 38 ∷ escape uri ++ 38 ∷ escape normal
 
--- the text is the base string of a method, an address and parameters
+-- the text is the base string of a method, a base string URI and parameters
 pub record IsBaseString (method uri : List ℕ) (pairs : List Pair) (text : List ℕ) : Type 0 where
   pub normal : List ℕ
   pub normal_of : IsNormal pairs normal
   pub is : text ≡ base_text method uri normal
 
--- the two escaped secrets with `&` between them
+-- the two escaped secrets with `&` between them (section 3.4.2)
 abbrev pub signing_key : List ℕ → List ℕ → List ℕ
 signing_key secret token_secret = escape secret ++ 38 ∷ escape token_secret
 
--- the base64 text of the code of the base string
+-- the base64 text of the HMAC-SHA1 of the base string under that key (section 3.4.2)
 abbrev pub signature_of : List ℕ → List ℕ → List ℕ → List ℕ
 signature_of base secret token_secret = encode_of standard (hmac (signing_key secret token_secret) base)
 
