@@ -1,5 +1,5 @@
 // The verdicts of lines that come in whatever pieces.
-ghost use Rattle.std.specs.Prelude.{◌≡◌, ◌<◌, [], ◌∷◌, ◌++◌, ℕ, length, take, slice_index, MatchOption};
+ghost use Rattle.std.specs.Prelude.{◌≡◌, ◌<◌, length, take, slice_index, MatchOption};
 ghost use Rattle.std.specs.Str.Lines.{strip_carriage_return};
 ghost use Rattle.lti_server.specs.Lines.{HasNoNewline};
 
@@ -43,7 +43,7 @@ fn without_carriage_return(line: &[u8]) -> &[u8]
 }
 
 impl Answered {
-    ghost use Rattle.std.specs.Prelude.{◌≡◌, ◌<◌, ◌≤◌, ◌+◌, [], ◌∷◌, ◌++◌, length, IfOk, OnOk, OnErr, string_bytes};
+    ghost use Rattle.std.specs.Prelude.{◌≡◌, [], ◌∷◌, ◌++◌, IfOk, OnOk, OnErr, string_bytes};
     ghost use Rattle.lti_outside.specs.Traffic.{Moves, no_fault, GivesFront};
     ghost use Rattle.lti_server.specs.Lines.{HasNoNewline};
     ghost use Rattle.lti_server.specs.CheckerView.{asked, IsReady};

@@ -1,6 +1,5 @@
 // The command `check`: a verdict line for each line of input.
-ghost use Rattle.std.specs.Prelude.{◌≡◌, ◌<◌, length, IsErrOf};
-ghost use Rattle.lti_outside.specs.Faults.{Rose};
+ghost use Rattle.std.specs.Prelude.{◌<◌, length};
 ghost use Rattle.lti_outside.specs.Limits.{IsSound};
 ghost use Rattle.lti_server.specs.Command.{IsInRange};
 ghost use Rattle.lti_server.specs.CommandView.{command_of};
@@ -58,6 +57,7 @@ pub fn check_lines<I: Link>(
     let checker = Checker::new(alloc, check, limits)?;
     let mut answered = Answered::new(alloc);
     let mut block = vec![in alloc; 0u8; BLOCK_LEN]?;
+    // Each turn takes at least one of the bytes that the limits allow.
     'turns: loop {
         if turn(alloc, &checker, &mut answered, &mut block, ends)? {
             return Ok(());

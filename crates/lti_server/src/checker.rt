@@ -1,11 +1,8 @@
 // Which kind of request a posted form is.
-ghost use Rattle.std.specs.Prelude.{◌≡◌, ◌≤◌, ◌++◌, true, false, ℕ, List, length, not, filter, bytes_eq, IfOk};
-ghost use Rattle.lti_outside.specs.Limits.{IsSound};
-ghost use Rattle.lti_outside.specs.declared.pairs.Pair.{Pair};
-ghost use Rattle.oauth_text.specs.Form.{IsForm, pairs_of};
+ghost use Rattle.std.specs.Prelude.{◌≡◌, ◌++◌, IfOk};
 
 use crate::command::Check;
-use crate::protocol::{Statement, read_statement};
+use crate::protocol::read_statement;
 use lti_machine::{Action, Call};
 use lti_outside::{Limits, NoMemory, Pairs, Text};
 use oauth_sign::{base_string, base_uri, signature};
@@ -45,15 +42,14 @@ fn joined(query: &Pairs, form: Pairs) -> Result<Pairs, NoMemory>
 }
 
 impl<'a> Checker<'a> {
-    ghost use Rattle.std.specs.Prelude.{◌≡◌, ◌≤◌, ◌↔◌, ℕ, List, [], length, codes, IfOk, IsTrue};
+    ghost use Rattle.std.specs.Prelude.{◌≡◌, ◌↔◌, [], codes, IfOk, IsTrue};
     ghost use Rattle.oauth_sign.specs.Signature.{IsSignature};
     ghost use Rattle.lti_server.specs.CheckerView.{asked, IsReady, IsChecked};
     ghost use Rattle.lti_server.specs.CommandView.{command_of};
     ghost use Rattle.lti_server.specs.Command.{IsInRange};
-    ghost use Rattle.oauth_text.specs.Form.{IsForm};
     ghost use Rattle.lti_outside.specs.Limits.{IsSound};
 
-    /// Makes ready for a command.
+    /// Makes ready for a command: reads the pairs of its query and makes its base string URI.
     pub fn new(
         alloc: Global,
         check: &'a Check<'a>,
@@ -95,7 +91,7 @@ impl<'a> Checker<'a> {
         Ok(holds)
     }
 
-    /// Which kind of request a form is.
+    /// Which kind of request a form is, where it is posted to the command's URL (RFC 5849, section 3.2).
     pub fn check(&self, alloc: Global, form: &[u8]) -> Result<Checked, NoMemory>
         requires { IsReady self.now }
         ensures { IfOk result (IsChecked (asked self.now) self.now.limits.field form.now) }

@@ -2,7 +2,6 @@
 ghost use Rattle.std.specs.Prelude.{◌≡◌, ◌⊎◌};
 ghost use Rattle.lti_outside.specs.Faults.{Rose};
 ghost use Rattle.lti_outside.specs.Limits.{IsSound};
-ghost use Rattle.lti_outside.specs.Traffic.{Traffic};
 ghost use Rattle.lti_server.specs.Command.{CheckCommand, IsCheck, IsUsage, texts};
 ghost use Rattle.lti_server.specs.Ending.{EndsWith};
 
