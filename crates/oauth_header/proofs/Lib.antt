@@ -1,0 +1,4 @@
+pub mod EscapeLemmas
+pub mod PieceLemmas
+pub mod TrimLemmas
+pub mod HeaderLemmas

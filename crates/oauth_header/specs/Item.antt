@@ -34,7 +34,7 @@ pub record IsEncoded (text : List ℕ) : Type 0 where
 
 -- at least one byte, and only bytes of a name
 abbrev pub are_name_bytes : List ℕ → Bool
-are_name_bytes text = nat_le 1 (length text) && list_all is_name_byte text
+are_name_bytes text = not (length text == 0) && list_all is_name_byte text
 
 -- how many bytes stand before the first `=`
 abbrev pub name_len : List ℕ → ℕ

@@ -33,10 +33,16 @@ fn is_value_byte(b: u8) -> bool
     b' ' <= b && b <= b'~' && b != b'"' && b != b'\\'
 }
 
+fn all_name_bytes(text: &[u8]) -> bool
+    ensures { result ≡ list_all spec.is_name_byte text.now }
+{
+    text.iter().all(|b| is_name_byte(*b))
+}
+
 fn are_name_bytes(text: &[u8]) -> bool
     ensures { result ≡ spec.are_name_bytes text.now }
 {
-    !text.is_empty() && text.iter().all(|b| is_name_byte(*b))
+    !text.is_empty() && all_name_bytes(text)
 }
 
 fn are_value_bytes(text: &[u8]) -> bool
