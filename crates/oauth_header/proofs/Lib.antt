@@ -1,4 +1,4 @@
-pub mod EscapeLemmas
 pub mod PieceLemmas
 pub mod TrimLemmas
 pub mod HeaderLemmas
+pub mod WrittenLemmas

@@ -1,6 +1,6 @@
 -- A text is cut at its first piece's end, and then what is left is cut.
-use Rattle.std.proofs.Common.{◌≡◌, ℕ, suc, ◌+◌, ◌<◌, ◌≤◌, Bool, true, false, cond, not, ◌&&◌, ◌==◌, List, [], ◌∷◌, ◌++◌, length, take, drop, get_or, map, filter, refl, sym, ap, ◌∙◌, arith, length-take, drop-cons}
-use Rattle.std.proofs.lemmas.List.{drop-drop}
+use Rattle.std.proofs.Common.{◌≡◌, ℕ, suc, ◌+◌, ◌-◌, ◌<◌, ◌≤◌, Bool, true, false, cond, not, ◌&&◌, ◌==◌, List, [], ◌∷◌, ◌++◌, length, take, drop, get_or, map, filter, refl, sym, ap, ◌∙◌, arith, length-take, length-drop, drop-cons, add-one}
+use Rattle.std.proofs.lemmas.List.{drop-drop, drop_all, take_all}
 use Rattle.oauth_header.specs.Items.{Placed, lengthen, pieces, placed, trimmed, is_nonempty, items_in, items_from}
 use Rattle.oauth_header.specs.Pieces.{piece_len}
 
@@ -21,13 +21,14 @@ piece_len_here odd text i within ends = rw (drop-cons text i 0 within, ends) ref
 
 -- any other byte is a byte of the piece
 pub piece_len_next : (odd : Bool) (text : List ℕ) (i : ℕ) → i < length text → (get_or text i 0 == 44 && not odd) ≡ false
-    → piece_len odd (drop i text) ≡ suc (piece_len (cond (get_or text i 0 == 34) (not odd) odd) (drop (suc i) text))
+    → piece_len odd (drop i text) ≡ suc (piece_len (cond (get_or text i 0 == 34) (not odd) odd) (drop (i + 1) text))
 unfolding piece_len
-piece_len_next odd text i within other = rw (drop-cons text i 0 within, other) refl
+piece_len_next odd text i within other = rw (drop-cons text i 0 within, other, add-one i) refl
 
-pub piece_len-nil : (odd : Bool) → piece_len odd [] ≡ 0
+-- no byte is left at the end
+pub piece_len_past : (odd : Bool) (text : List ℕ) (i : ℕ) → length text ≤ i → piece_len odd (drop i text) ≡ 0
 unfolding piece_len
-piece_len-nil odd = refl
+piece_len_past odd text i past = rw (drop_all i text past) refl
 
 -- the pieces behind a cut
 abbrev after : List ℕ → List (List ℕ)
@@ -58,24 +59,29 @@ items_in-cons : (piece : Placed) (pieces : List Placed) → items_in (piece ∷ 
 items_in-cons piece pieces = kept (is_nonempty (trimmed piece)) (trimmed piece) (items_in pieces)
 
 -- the items are that of the first piece, and those behind it
-pub items_from_cut : (value : List ℕ) (at len : ℕ) → len ≡ piece_len false (drop at value)
-    → items_from at (drop at value) ≡ items_in (record { at = at; bytes = take len (drop at value) } ∷ []) ++ items_from (at + len + 1) (drop (at + len + 1) value)
-items_from_cut value at len is =
+pub items_from_cut : (value : List ℕ) (at : ℕ) (piece : List ℕ) → piece ≡ take (piece_len false (drop at value)) (drop at value)
+    → items_from at (drop at value) ≡ items_in (record { at = at; bytes = piece } ∷ []) ++ items_from (at + (length piece + 1)) (drop (at + (length piece + 1)) value)
+items_from_cut value at piece is =
     let text = drop at value in
-    let within : len ≤ length text = rw is (piece_len-le-length false text) in
-    let long : length (take len text) ≡ len = omega (arith, length-take len text) in
-    let cut : pieces false text ≡ take len text ∷ after (drop len text) = rw is (pieces_cut false text) in
-    let next : at + length (take len text) + 1 ≡ at + len + 1 = ap (λ n. at + n + 1) long in
-    let place : at + len + 1 ≡ at + len + 1 = refl in
-    let left : drop 1 (drop len text) ≡ drop (at + len + 1) value =
-    drop-drop 1 len text ∙ drop-drop (len + 1) at value ∙ ap (λ n. drop n value) (omega arith) in
+    let len = piece_len false text in
+    let within : len ≤ length text = piece_len-le-length false text in
+    let long : length piece ≡ len = ap length is ∙ omega (arith, length-take len text) in
+    let cut : pieces false text ≡ piece ∷ after (drop len text) = pieces_cut false text ∙ ap (λ p. p ∷ after (drop len text)) (sym is) in
+    let here = items_in (record { at = at; bytes = piece } ∷ []) in
+    let left : drop 1 (drop len text) ≡ drop (at + (length piece + 1)) value =
+        drop-drop 1 len text ∙ drop-drop (len + 1) at value ∙ ap (λ n. drop (at + (n + 1)) value) (sym long) in
+    let next : at + length piece + 1 ≡ at + (length piece + 1) = omega arith in
     ap (λ ps. items_in (placed at ps)) cut
-    ∙ items_in-cons (record { at = at; bytes = take len text }) (placed (at + length (take len text) + 1) (after (drop len text)))
-    ∙ ap (λ n. items_in (record { at = at; bytes = take len text } ∷ []) ++ items_in (placed n (after (drop len text)))) next
-    ∙ ap (λ items. items_in (record { at = at; bytes = take len text } ∷ []) ++ items) (after_items (at + len + 1) (drop len text))
-    ∙ ap (λ rest. items_in (record { at = at; bytes = take len text } ∷ []) ++ items_from (at + len + 1) rest) left
+    ∙ items_in-cons (record { at = at; bytes = piece }) (placed (at + length piece + 1) (after (drop len text)))
+    ∙ ap (λ n. here ++ items_in (placed n (after (drop len text)))) next
+    ∙ ap (λ items. here ++ items) (after_items (at + (length piece + 1)) (drop len text))
+    ∙ ap (λ rest. here ++ items_from (at + (length piece + 1)) rest) left
 
 -- nothing stands behind the end
-pub items_from-nil : (at : ℕ) → items_from at [] ≡ []
+pub items_from_past : (value : List ℕ) (at : ℕ) → length value ≤ at → items_from at (drop at value) ≡ []
 unfolding pieces
-items_from-nil at = refl
+items_from_past value at past = rw (drop_all at value past) refl
+
+-- what a slice from the place on gives
+pub from_place : (value : List ℕ) (at : ℕ) → take (length value - at) (drop at value) ≡ drop at value
+from_place value at = take_all (length value - at) (drop at value) (omega (arith, length-drop at value))

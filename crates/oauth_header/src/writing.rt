@@ -13,6 +13,7 @@ use std::alloc::{AllocError, Global};
 // Appends the escaped name, `=`, and the escaped value between quotation marks.
 fn push_item(text: &mut String, pair: &Pair) -> Result<(), AllocError>
     ensures text { OnOk result (string_bytes text.new ≡ string_bytes text.old ++ spec.item_text pair.now) }
+    ensures texts { AreText pair.now }
 {
     escape_into(text, pair.name.get())?;
     text.push_str("=\"")?;
