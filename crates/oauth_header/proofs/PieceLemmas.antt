@@ -1,6 +1,6 @@
 -- A text is cut at its first piece's end, and then what is left is cut.
-use Rattle.std.proofs.Common.{◌≡◌, ℕ, suc, ◌+◌, ◌-◌, ◌<◌, ◌≤◌, Bool, true, false, cond, not, ◌&&◌, ◌==◌, List, [], ◌∷◌, ◌++◌, length, take, drop, get_or, map, filter, refl, sym, ap, ◌∙◌, arith, length-take, length-drop, drop-cons, add-one}
-use Rattle.std.proofs.lemmas.List.{drop-drop, drop_all, take_all}
+use Rattle.std.proofs.Common.{◌≡◌, ℕ, suc, ◌+◌, ◌<◌, ◌≤◌, Bool, true, false, cond, not, ◌&&◌, ◌==◌, List, [], ◌∷◌, ◌++◌, length, take, drop, get_or, map, filter, refl, sym, ap, ◌∙◌, arith, length-take, drop-cons, add-one}
+use Rattle.std.proofs.lemmas.List.{drop-drop, drop_all}
 use Rattle.oauth_header.specs.Items.{Placed, lengthen, pieces, placed, trimmed, is_nonempty, items_in, items_from}
 use Rattle.oauth_header.specs.Pieces.{piece_len}
 
@@ -81,7 +81,3 @@ items_from_cut value at piece is =
 pub items_from_past : (value : List ℕ) (at : ℕ) → length value ≤ at → items_from at (drop at value) ≡ []
 unfolding pieces
 items_from_past value at past = rw (drop_all at value past) refl
-
--- what a slice from the place on gives
-pub from_place : (value : List ℕ) (at : ℕ) → take (length value - at) (drop at value) ≡ drop at value
-from_place value at = take_all (length value - at) (drop at value) (omega (arith, length-drop at value))

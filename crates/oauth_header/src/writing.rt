@@ -6,18 +6,19 @@ ghost use Rattle.oauth_header.specs.Header.{IsHeader, header_pairs};
 ghost use Rattle.oauth_header.specs.Written as spec;
 ghost use Rattle.oauth_header.specs.Written.{header_text, can_be_written};
 
-use lti_outside::{NoMemory, Pair, Pairs, Text};
+use lti_outside::{NoMemory, Pairs, Text};
 use oauth_text::escape_into;
 use std::alloc::{AllocError, Global};
 
-// Appends the escaped name, `=`, and the escaped value between quotation marks.
-fn push_item(text: &mut String, pair: &Pair) -> Result<(), AllocError>
-    ensures text { OnOk result (string_bytes text.new ≡ string_bytes text.old ++ spec.item_text pair.now) }
-    ensures texts { AreText pair.now }
+// Appends the escaped name, `=`, and the escaped value between quotation marks. Both are texts.
+fn push_item(text: &mut String, name: &str, value: &str) -> Result<(), AllocError>
+    ensures text { OnOk result (string_bytes text.new
+        ≡ string_bytes text.old ++ spec.item_text (record { name = name.now; value = value.now })) }
+    ensures texts { AreText (record { name = name.now; value = value.now }) }
 {
-    escape_into(text, pair.name.get())?;
+    escape_into(text, name)?;
     text.push_str("=\"")?;
-    escape_into(text, pair.value.get())?;
+    escape_into(text, value)?;
     text.push_str("\"")
 }
 
@@ -27,12 +28,14 @@ fn push_item(text: &mut String, pair: &Pair) -> Result<(), AllocError>
 pub fn write(alloc: Global, pairs: &Pairs) -> Result<Text, NoMemory>
     requires { can_be_written pairs.now ≡ true }
     ensures text { IfOk result (λ text. text ≡ header_text pairs.now) }
+    ensures header { IfOk result IsHeader }
+    ensures back { IfOk result (λ text. header_pairs text ≡ pairs.now) }
 {
     let mut text = String::from_str(alloc, "OAuth")?;
     let mut separator = " ";
     for pair in pairs.as_slice() {
         text.push_str(separator)?;
-        push_item(&mut text, pair)?;
+        push_item(&mut text, pair.name.get(), pair.value.get())?;
         separator = ", ";
     }
     Ok(Text::from_string(text))

@@ -1,9 +1,10 @@
 use Rattle.std.proofs.Common.{◌≡◌, ◌+◌, ◌++◌, [], ◌∷◌, List, false, length, take, drop, append_assoc, append-nil, refl, sym, ap, ◌∙◌, subst, arith}
+use Rattle.std.proofs.lemmas.List.{take_rest}
 use Rattle.oauth_header.specs.Items.{Placed, items_in, items_from}
 use Rattle.oauth_header.specs.Pieces.{piece_len}
 use Rattle.oauth_header.specs.Header.{AreItems, pairs_in, items_of, header_pairs}
 use Rattle.oauth_header.specs.Faults.{IsFaultOf}
-use Rattle.oauth_header.proofs.PieceLemmas.{items_from_cut, items_from_past, from_place}
+use Rattle.oauth_header.proofs.PieceLemmas.{items_from_cut, items_from_past}
 use Rattle.oauth_header.proofs.HeaderLemmas.{AreItems-append, pairs_in-append, IsFaultOf-within, IfErr_carried}
 use Rattle.oauth_header.proofs.reading.read.Goals as goal
 
@@ -15,7 +16,7 @@ returns-in_err-read_piece-clause-bad c =
     let here = items_in (record { at = c.loop-at.at; bytes = piece } ∷ []) in
     let next = c.loop-at.at + (length piece + 1) in
     let back = items_from next (drop next value) in
-    let first = c.first_piece-piece.ensures.piece ∙ ap (λ text. take (piece_len false text) text) (from_place value c.loop-at.at) in
+    let first = c.first_piece-piece.ensures.piece ∙ ap (λ text. take (piece_len false text) text) (take_rest value c.loop-at.at) in
     let cut = items_from_cut value c.loop-at.at piece first in
     let fault = c.in_err-read_piece.field-0.0 in
     let all : items_of c.args.value.now ≡ so_far.0 ++ (here ++ back) = ap items_of (sym c.as_bytes-value.ensures.value) ∙ so_far.1 ∙ ap (λ items. so_far.0 ++ items) cut in
@@ -29,7 +30,7 @@ loop-at-preserved c =
     let piece = c.first_piece-piece.result.now in
     let here = items_in (record { at = c.loop-at.at; bytes = piece } ∷ []) in
     let next = c.loop-at.at + (length piece + 1) in
-    let first = c.first_piece-piece.ensures.piece ∙ ap (λ text. take (piece_len false text) text) (from_place value c.loop-at.at) in
+    let first = c.first_piece-piece.ensures.piece ∙ ap (λ text. take (piece_len false text) text) (take_rest value c.loop-at.at) in
     let cut = items_from_cut value c.loop-at.at piece first in
     (
       so_far.0 ++ here,
