@@ -141,7 +141,7 @@ trim_name (b ∷ name) rest some bytes = trim_front_done b (name ++ rest) (no_bl
 trim_spaced : (pair : Pair) → IsGood pair → trim (spaced pair) ≡ item_text pair
 trim_spaced pair good =
     let front : trim_front (item_text pair) ≡ item_text pair =
-        ap trim_front (item_text-is pair) ∙ trim_name (escape pair.name) (61 ∷ 34 ∷ (escape pair.value ++ 34 ∷ [])) (some_name pair good) (plain_pair pair good).name ∙ sym (item_text-is pair) in
+    ap trim_front (item_text-is pair) ∙ trim_name (escape pair.name) (61 ∷ 34 ∷ (escape pair.value ++ 34 ∷ [])) (some_name pair good) (plain_pair pair good).name ∙ sym (item_text-is pair) in
     ap trim_end front ∙ trim_end_done ((escape pair.name ++ codes "=\"") ++ escape pair.value) 34 refl
 
 some_item : (pair : Pair) → IsGood pair → is_some (item_text pair) ≡ true

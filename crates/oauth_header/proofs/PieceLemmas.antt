@@ -69,7 +69,7 @@ items_from_cut value at piece is =
     let cut : pieces false text ≡ piece ∷ after (drop len text) = pieces_cut false text ∙ ap (λ p. p ∷ after (drop len text)) (sym is) in
     let here = items_in (record { at = at; bytes = piece } ∷ []) in
     let left : drop 1 (drop len text) ≡ drop (at + (length piece + 1)) value =
-        drop-drop 1 len text ∙ drop-drop (len + 1) at value ∙ ap (λ n. drop (at + (n + 1)) value) (sym long) in
+    drop-drop 1 len text ∙ drop-drop (len + 1) at value ∙ ap (λ n. drop (at + (n + 1)) value) (sym long) in
     let next : at + length piece + 1 ≡ at + (length piece + 1) = omega arith in
     ap (λ ps. items_in (placed at ps)) cut
     ∙ items_in-cons (record { at = at; bytes = piece }) (placed (at + length piece + 1) (after (drop len text)))

@@ -37,10 +37,9 @@ pub written_more : (pairs : List Pair) (i : ℕ) (pair : Pair) (text before now 
     → text ≡ header_text (take i pairs) → before ≡ separator (take i pairs) → AllByRecursion AreText (take i pairs) → AreText pair → now ≡ (text ++ before) ++ item_text pair
     → (now ≡ header_text (take (i + 1) pairs)) × (codes ", " ≡ separator (take (i + 1) pairs)) × AllByRecursion AreText (take (i + 1) pairs)
 written_more pairs i pair text before now within is written separated texts new_text new =
-    let more : take (i + 1) pairs ≡ take i pairs ++ pair ∷ [] = take_more pairs i pair within ∙ ap (λ (p : Pair). take i pairs ++ p ∷ []) (sym is) in
-    (
+    let more : take (i + 1) pairs ≡ take i pairs ++ pair ∷ [] = take_more pairs i pair within ∙ ap (λ (p : Pair). take i pairs ++ p ∷ []) (sym is) in (
       new ∙ ap (λ bytes. (bytes ++ before) ++ item_text pair) written ∙ ap (λ bytes. (header_text (take i pairs) ++ bytes) ++ item_text pair) separated
-      ∙ sym (header_text-push (take i pairs) pair) ∙ ap header_text (sym more),
+          ∙ sym (header_text-push (take i pairs) pair) ∙ ap header_text (sym more),
       sym (separator-push (take i pairs) pair) ∙ ap separator (sym more),
       subst (λ (ps : List Pair). AllByRecursion AreText ps) (sym more) (AreText-push (take i pairs) pair texts new_text),
     )

@@ -14,9 +14,9 @@ returns-then-not-odd-clause-len c =
 pub loop-place-preserved : goal.loop-place-preserved
 loop-place-preserved c =
     let other : (get_or c.args.text.now c.loop-place.place 0 == 44 && not c.loop-place.odd) ≡ false =
-        elim c.else-b-eq44.branch [ else-b-eq44-via-then-b-eq44+else-not-odd w ↦ grind (arith, nat_tests) | else-b-eq44-via-else-b-eq44 w ↦ grind (arith, nat_tests) ] in
+    elim c.else-b-eq44.branch [ else-b-eq44-via-then-b-eq44+else-not-odd w ↦ grind (arith, nat_tests) | else-b-eq44-via-else-b-eq44 w ↦ grind (arith, nat_tests) ] in
     let odd : c.if-b-eq34.odd ≡ cond (get_or c.args.text.now c.loop-place.place 0 == 34) (not c.loop-place.odd) c.loop-place.odd =
-        elim c.if-b-eq34.branch [ then-b-eq34 w ↦ grind (arith, nat_tests) | else-b-eq34 w ↦ grind (arith, nat_tests) ] in
+    elim c.if-b-eq34.branch [ then-b-eq34 w ↦ grind (arith, nat_tests) | else-b-eq34 w ↦ grind (arith, nat_tests) ] in
     let next = piece_len_next c.loop-place.odd c.args.text.now c.loop-place.place (omega arith) other in
     rw odd (omega (arith, next, c.loop-place.invariant))
 

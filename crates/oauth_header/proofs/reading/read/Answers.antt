@@ -31,8 +31,7 @@ loop-at-preserved c =
     let here = items_in (record { at = c.loop-at.at; bytes = piece } ∷ []) in
     let next = c.loop-at.at + (length piece + 1) in
     let first = c.first_piece-piece.ensures.piece ∙ ap (λ text. take (piece_len false text) text) (take_rest value c.loop-at.at) in
-    let cut = items_from_cut value c.loop-at.at piece first in
-    (
+    let cut = items_from_cut value c.loop-at.at piece first in (
       so_far.0 ++ here,
       so_far.1 ∙ ap (λ items. so_far.0 ++ items) cut ∙ sym (append_assoc so_far.0 here (items_from next (drop next value))),
       AreItems-append so_far.0 here so_far.2 c.in_ok-read_piece.ensures.items,
@@ -51,5 +50,5 @@ returns-clause-header c =
     let so_far = c.loop-at.invariant in
     let past = items_from_past c.as_bytes-value.result.now c.loop-at.at (omega arith) in
     let all : so_far.0 ≡ items_of c.args.value.now =
-        sym (so_far.1 ∙ ap (λ items. so_far.0 ++ items) past ∙ append-nil so_far.0) ∙ ap items_of c.as_bytes-value.ensures.value in
+    sym (so_far.1 ∙ ap (λ items. so_far.0 ++ items) past ∙ append-nil so_far.0) ∙ ap items_of c.as_bytes-value.ensures.value in
     subst AreItems all so_far.2

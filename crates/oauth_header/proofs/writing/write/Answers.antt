@@ -18,10 +18,10 @@ loop-pair-preserved c =
     let given : Pair = record { name = c.get.result.now; value = c.get-in-loop-pair.result.now } in
     let same : given ≡ pair = rw (c.get.ensures, c.get-in-loop-pair.ensures) refl in
     let text = c.in_ok-push_item.ensures.text
-        ∙ ap (λ bytes. bytes ++ item_text given) c.in_ok-push_str.ensures.bytes
-        ∙ ap (λ (p : Pair). (string_bytes c.loop-pair.text ++ c.loop-pair.separator.now) ++ item_text p) same in
+    ∙ ap (λ bytes. bytes ++ item_text given) c.in_ok-push_str.ensures.bytes
+    ∙ ap (λ (p : Pair). (string_bytes c.loop-pair.text ++ c.loop-pair.separator.now) ++ item_text p) same in
     let more = written_more c.as_slice-pair-items.result.now c.loop-pair.pair-index pair (string_bytes c.loop-pair.text) c.loop-pair.separator.now (string_bytes c.push_item.new.text)
-        (omega arith) c.pair-item.is so_far.1 so_far.2 so_far.3 (subst AreText same c.push_item.ensures.texts) text in
+    (omega arith) c.pair-item.is so_far.1 so_far.2 so_far.3 (subst AreText same c.push_item.ensures.texts) text in
     (search rules, more.0, more.1, more.2)
 
 pub returns-clause-header : goal.returns-clause-header
