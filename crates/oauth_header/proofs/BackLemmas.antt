@@ -1,5 +1,5 @@
 -- A header's value that was written from pairs is read as these pairs.
-use Rattle.std.proofs.Common.{◌≡◌, ℕ, ◌+◌, ◌-◌, ◌<◌, leb, Bool, true, false, cond, not, ◌&&◌, ◌||◌, ◌==◌, List, [], ◌∷◌, ◌++◌, length, take, drop, get_or, map, filter, codes, All, refl, sym, ap, subst, ◌∙◌, arith, append_assoc, length-append}
+use Rattle.std.proofs.Common.{◌≡◌, ℕ, ◌+◌, ◌-◌, ◌<◌, leb, Bool, true, false, cond, not, ◌||◌, ◌==◌, List, [], ◌∷◌, ◌++◌, length, take, drop, get_or, map, filter, codes, refl, sym, ap, subst, ◌∙◌, arith, length-append}
 use Rattle.std.specs.List.{AllByRecursion, list_all, flat_map}
 use Rattle.std.specs.Cmp.Derive.{both_true}
 use Rattle.std.proofs.Math.Seq.{drop-append-add, take-append_seam}
@@ -11,9 +11,9 @@ use Rattle.lti_outside.specs.declared.pairs.Pair.{Pair}
 use Rattle.lti_outside.proofs.BoolLemmas.{and_split}
 use Rattle.oauth_text.specs.Escape.{escape}
 use Rattle.oauth_text.specs.Form.{AreText}
-use Rattle.oauth_header.specs.Item.{is_name_byte, is_value_byte, are_escapes, are_name_bytes, name_len, raw_name, assigned, is_closed, is_quoted, unquoted, raw_value, pair_of, is_realm, IsEncoded, IsWritten, IsItem}
+use Rattle.oauth_header.specs.Item.{is_name_byte, is_value_byte, are_name_bytes, name_len, raw_name, assigned, is_quoted, unquoted, raw_value, pair_of, is_realm, IsEncoded, IsItem}
 use Rattle.oauth_header.specs.Items.{Placed, is_blank, trim_front, trim_end, items_from, pieces}
-use Rattle.oauth_header.specs.Header.{is_oauth, items_of, AreItems, pairs_in, IsHeader, header_pairs}
+use Rattle.oauth_header.specs.Header.{is_oauth, items_of, AreItems, IsHeader, header_pairs}
 use Rattle.oauth_header.specs.Written.{item_text, header_text, can_stand, can_be_written}
 use Rattle.oauth_header.proofs.TrimLemmas.{trim_front_done, trim_end_done}
 use Rattle.oauth_header.proofs.EscapedLemmas.{percent_decode-escape, name_bytes-escape, are_escapes-escape, some-escape, longer}

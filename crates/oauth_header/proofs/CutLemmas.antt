@@ -1,12 +1,12 @@
 -- The header's value of some pairs is cut where its items were joined.
-use Rattle.std.proofs.Common.{◌≡◌, ℕ, ◌+◌, ◌-◌, ◌<◌, Bool, true, false, cond, not, ◌&&◌, ◌||◌, ◌==◌, List, [], ◌∷◌, ◌++◌, length, map, filter, codes, refl, sym, ap, ◌∙◌, arith, append_assoc, append-nil}
+use Rattle.std.proofs.Common.{◌≡◌, ℕ, ◌+◌, Bool, true, false, cond, not, ◌==◌, List, [], ◌∷◌, ◌++◌, length, map, filter, codes, refl, sym, ap, ◌∙◌, arith, append_assoc}
 use Rattle.std.specs.List.{AllByRecursion, list_all, flat_map}
 use Rattle.std.proofs.lemmas.Bool.Decides.{nat_tests}
 use Rattle.lti_outside.specs.declared.pairs.Pair.{Pair}
 use Rattle.oauth_text.specs.Escape.{escape}
 use Rattle.lti_outside.proofs.BoolLemmas.{and_split}
 use Rattle.oauth_header.specs.Item.{is_name_byte}
-use Rattle.oauth_header.specs.Items.{Placed, lengthen, pieces, placed, trim_front, trim_end, trimmed, is_nonempty, items_in, items_from}
+use Rattle.oauth_header.specs.Items.{Placed, lengthen, pieces, placed, trim_front, trim_end, trimmed, is_nonempty, items_in}
 use Rattle.oauth_header.specs.Written.{item_text}
 
 -- neither a comma nor a quotation mark is a byte of a name

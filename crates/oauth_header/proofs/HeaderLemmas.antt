@@ -1,11 +1,10 @@
 -- Items one after another.
 use Rattle.std.proofs.Common.{◌≡◌, ℕ, not, false, ◌==◌, length, List, [], ◌∷◌, ◌++◌, map, filter, Result, Ok, Err, IfErr, IsErrAnd, refl, sym, ap, ◌∙◌, subst, append_assoc}
-use Rattle.std.specs.List.{AllByRecursion}
 use Rattle.std.proofs.lemmas.List.{map-append}
 use Rattle.std.proofs.lemmas.List.Elements.{filter-append}
 use Rattle.oauth_header.specs.Item.{IsItem, pair_of, is_realm}
 use Rattle.oauth_header.specs.Items.{Placed, trimmed, items_in}
-use Rattle.oauth_header.specs.Header.{AreItems, pairs_in, IsFirstBad}
+use Rattle.oauth_header.specs.Header.{AreItems, pairs_in}
 use Rattle.oauth_header.specs.Faults.{IsFaultOf, IsFaultAt}
 use Rattle.oauth_header.specs.declared.faults.HeaderFault.{HeaderFault}
 use Rattle.oauth_header.specs.declared.faults.HeaderFault.TheVariants.{BadAuthorization, NoMemory}

@@ -1,5 +1,5 @@
 -- A text is cut at its first piece's end, and then what is left is cut.
-use Rattle.std.proofs.Common.{◌≡◌, ℕ, suc, ◌+◌, ◌<◌, ◌≤◌, Bool, true, false, cond, not, ◌&&◌, ◌==◌, List, [], ◌∷◌, ◌++◌, length, take, drop, get_or, map, filter, refl, sym, ap, ◌∙◌, arith, length-take, drop-cons, add-one}
+use Rattle.std.proofs.Common.{◌≡◌, ℕ, suc, ◌+◌, ◌<◌, ◌≤◌, Bool, true, false, cond, not, ◌&&◌, ◌==◌, List, [], ◌∷◌, ◌++◌, length, take, drop, get_or, refl, sym, ap, ◌∙◌, arith, length-take, drop-cons, add-one}
 use Rattle.std.proofs.lemmas.List.{drop-drop, drop_all}
 use Rattle.oauth_header.specs.Items.{Placed, lengthen, pieces, placed, trimmed, is_nonempty, items_in, items_from}
 use Rattle.oauth_header.specs.Pieces.{piece_len}

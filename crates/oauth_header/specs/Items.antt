@@ -1,5 +1,5 @@
 -- The items of an Authorization header of the scheme OAuth, with their places.
-use Rattle.std.specs.Prelude.{ℕ, ◌+◌, ◌-◌, Bool, true, false, not, ◌&&◌, ◌||◌, ◌==◌, List, [], ◌∷◌, length, filter, map, reverse, if◌then◌else◌}
+use Rattle.std.specs.Prelude.{ℕ, ◌+◌, ◌-◌, Bool, false, not, ◌&&◌, ◌||◌, ◌==◌, List, [], ◌∷◌, length, filter, map, reverse, if◌then◌else◌}
 
 -- some bytes of the header's value, and the place in it where they begin
 pub record Placed : Type 0 where

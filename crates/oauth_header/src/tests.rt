@@ -1,4 +1,7 @@
 //! Published headers, a table of good and bad items, and a header written and read back.
+ghost use Rattle.std.specs.Prelude.{◌≡◌};
+ghost use Rattle.oauth_header.specs.Written as spec;
+
 use crate::{HeaderFault, read, write};
 use lti_outside::{NoMemory, Pair, Pairs, Text};
 use std::alloc::Global;
@@ -15,7 +18,7 @@ fn list(alloc: Global, texts: &[(&str, &str)]) -> Result<Pairs, NoMemory> {
     Ok(made)
 }
 
-// The names and values, each with one byte behind it that can't stand in them.
+// The names and values, each with an end of line behind it.
 fn shown(alloc: Global, pairs: &Pairs) -> Result<Text, NoMemory> {
     let mut text = Text::empty(alloc);
     for pair in pairs.as_slice() {
@@ -25,6 +28,27 @@ fn shown(alloc: Global, pairs: &Pairs) -> Result<Text, NoMemory> {
         text.push("\n")?;
     }
     Ok(text)
+}
+
+fn can_stand(pair: &Pair) -> bool
+    ensures { result ≡ spec.can_stand pair.now }
+{
+    !pair.name.get().is_empty() && pair.name.get() != "realm"
+}
+
+fn can_be_written(pairs: &Pairs) -> bool
+    ensures { result ≡ spec.can_be_written pairs.now }
+{
+    pairs.as_slice().iter().all(|pair| can_stand(pair))
+}
+
+// The header's value of the pairs, or none where they can't be written.
+fn written(alloc: Global, pairs: &Pairs) -> Result<Option<Text>, NoMemory> {
+    if !can_be_written(pairs) {
+        return Ok(None);
+    }
+    let text = write(alloc, pairs)?;
+    Ok(Some(text))
 }
 
 #[test]
@@ -157,14 +181,14 @@ fn writes_and_reads_back(rt: HostRuntime) -> Result<(), Fail> {
         ("\u{2603}", ""),
     ];
     let pairs = list(rt.alloc(), &texts)?;
-    let text = write(rt.alloc(), &pairs)?;
+    let text = written(rt.alloc(), &pairs)?.unwrap_or(Text::empty(rt.alloc()));
     assert_eq!(rt;
         text.get(),
         "OAuth oauth_consumer_key=\"9djdj82h48djs9d2\", a%20b=\"1%2C%222%22%25\", %E2%98%83=\"\""
     );
     let back = read(rt.alloc(), text.get())?;
     assert!(rt; back.as_slice() == pairs.as_slice());
-    let none = write(rt.alloc(), &Pairs::new(rt.alloc()))?;
+    let none = written(rt.alloc(), &Pairs::new(rt.alloc()))?.unwrap_or(Text::empty(rt.alloc()));
     assert_eq!(rt; none.get(), "OAuth");
     Ok(())
 }

@@ -1,7 +1,5 @@
-use Rattle.std.proofs.Common.{◌≡◌, ◌+◌, ◌<◌, suc, true, false, not, ◌&&◌, ◌==◌, cond, get_or, length, drop, refl, sym, ap, ◌∙◌, arith}
+use Rattle.std.proofs.Common.{◌≡◌, false, not, ◌&&◌, ◌==◌, cond, get_or, arith}
 use Rattle.std.proofs.lemmas.Bool.Decides.{nat_tests}
-use Rattle.std.proofs.lemmas.Grind.{common_steps}
-use Rattle.oauth_header.specs.Pieces.{piece_len}
 use Rattle.oauth_header.proofs.PieceLemmas.{piece_len_here, piece_len_next, piece_len_past}
 use Rattle.oauth_header.proofs.pieces.first_piece_len.Goals as goal
 use Rattle.oauth_header.proofs.pieces.first_piece_len.Goals.{else-b-eq44-via-then-b-eq44+else-not-odd, else-b-eq44-via-else-b-eq44, then-b-eq34, else-b-eq34}

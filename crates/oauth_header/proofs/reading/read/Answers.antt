@@ -1,6 +1,6 @@
-use Rattle.std.proofs.Common.{◌≡◌, ◌+◌, ◌++◌, [], ◌∷◌, List, false, length, take, drop, append_assoc, append-nil, refl, sym, ap, ◌∙◌, subst, arith}
+use Rattle.std.proofs.Common.{◌≡◌, ◌+◌, ◌++◌, [], ◌∷◌, false, length, take, drop, append_assoc, append-nil, sym, ap, ◌∙◌, subst, arith}
 use Rattle.std.proofs.lemmas.List.{take_rest}
-use Rattle.oauth_header.specs.Items.{Placed, items_in, items_from}
+use Rattle.oauth_header.specs.Items.{items_in, items_from}
 use Rattle.oauth_header.specs.Pieces.{piece_len}
 use Rattle.oauth_header.specs.Header.{AreItems, pairs_in, items_of, header_pairs}
 use Rattle.oauth_header.specs.Faults.{IsFaultOf}

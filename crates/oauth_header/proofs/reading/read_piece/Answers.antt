@@ -1,6 +1,5 @@
-use Rattle.std.proofs.Common.{◌≡◌, ◌==◌, ◌+◌, ◌-◌, false, [], ◌∷◌, length, sym, ap, ◌∙◌, arith}
-use Rattle.std.proofs.lemmas.Bool.Decides.{nat_tests}
-use Rattle.oauth_header.specs.Items.{Placed, trim_end, trimmed, items_in}
+use Rattle.std.proofs.Common.{◌+◌, ◌-◌, [], ◌∷◌, length, sym, ap, ◌∙◌}
+use Rattle.oauth_header.specs.Items.{Placed, trim_end, items_in}
 use Rattle.oauth_header.specs.Faults.{IsFaultOf}
 use Rattle.oauth_header.proofs.HeaderLemmas.{IsFaultOf_at, IfErr_carried}
 use Rattle.oauth_header.proofs.reading.read_piece.Goals as goal
