@@ -1,5 +1,5 @@
 -- One call after another.
-use Rattle.std.proofs.Common.{◌≡◌, ℕ, List, [], ◌++◌, append-nil, refl, sym, ap, ◌∙◌, append_assoc, subst, arith, Option, Some, None}
+use Rattle.std.proofs.Common.{◌≡◌, ℕ, List, [], ◌++◌, append-nil, refl, sym, ap, ◌∙◌, append_assoc, subst, Option, Some, None}
 use Rattle.lti_outside.specs.Faults.{Rose}
 use Rattle.lti_outside.specs.Traffic.{Told, Traffic, Fault, no_fault, read_fault, write_fault, Tells, Counts, Moves, HasNoneLeft, IsAtEnd, IsLeft}
 

@@ -1,9 +1,9 @@
 -- Which kind of request a form is.
-use Rattle.std.proofs.Common.{◌≡◌, ◌≤◌, ◌⊎◌, ℕ, false, List, length, subst, sym, ap, arith}
+use Rattle.std.proofs.Common.{◌≡◌, ◌≤◌, ◌⊎◌, ℕ, false, List, length, subst, ap, arith}
 use Rattle.lti_outside.specs.declared.pairs.Pair.{Pair}
 use Rattle.oauth_text.specs.Form.{IsForm}
 use Rattle.lti_machine.specs.Sound.{IsSound}
-use Rattle.lti_server.specs.Command.{CheckCommand, IsInRange}
+use Rattle.lti_server.specs.Command.{CheckCommand}
 use Rattle.lti_server.specs.Protocol.{Credentials, HasCredentials, has_fault}
 use Rattle.lti_server.specs.Checked.{parameters, HasNoFormFault, IsSignedBy, IsWellSigned, HasBadSignature}
 use Rattle.lti_server.specs.Verdicts.{call_of}

@@ -1,5 +1,5 @@
 -- The lines that were answered so far, and what more bytes and the end of the input make of them.
-use Rattle.std.proofs.Common.{◌≡◌, ℕ, suc, ◌+◌, ◌-◌, ◌*◌, ◌<◌, ◌≤◌, ◌==◌, ◌⊎◌, false, ⊎_elim, List, [], ◌∷◌, ◌++◌, length, inl, inr, refl, sym, ap, ◌∙◌, subst, append_assoc, append-nil, arith, length-append, string_bytes, Result, Ok, Err}
+use Rattle.std.proofs.Common.{◌≡◌, ℕ, ◌+◌, ◌-◌, ◌<◌, ◌≤◌, ◌==◌, ◌⊎◌, false, ⊎_elim, List, [], ◌∷◌, ◌++◌, length, inl, inr, refl, sym, ap, ◌∙◌, subst, append_assoc, append-nil, arith, length-append}
 use Rattle.std.specs.Prelude.{⊤}
 use Rattle.std.specs.List.{flat_map}
 use Rattle.std.specs.Str.Lines.{strip_carriage_return, lines}
@@ -8,7 +8,7 @@ use Rattle.std.proofs.lemmas.List.Elements.{All-append, All-nil}
 use Rattle.lti_outside.specs.declared.limits.Limits.{Limits}
 use Rattle.lti_machine.specs.declared.entry.Entry.{Entry}
 use Rattle.lti_server.specs.Command.{CheckCommand}
-use Rattle.lti_server.specs.Lines.{EndsLine, HasNoNewline}
+use Rattle.lti_server.specs.Lines.{HasNoNewline}
 use Rattle.lti_server.specs.Verdicts.{Judges, AreVerdicts, verdict_line, IsAnswered, IsRefused, AnswersAll, AnswersBefore, AnswersFront}
 use Rattle.lti_server.specs.SoFar.{IsSoFar, budget}
 use Rattle.lti_server.specs.declared.verdict.Verdict.{Verdict}

@@ -1,14 +1,13 @@
 -- What a turn makes of what was fed, or of the end of the input, once the pending verdict lines were written.
-use Rattle.std.proofs.Common.{◌≡◌, ℕ, ◌+◌, ◌<◌, ◌≤◌, ◌⊎◌, inl, inr, true, false, List, [], ◌∷◌, ◌++◌, length, refl, sym, ap, ◌∙◌, subst, ⊎_elim, append_assoc, append-nil, arith, string_bytes, Result, Ok, Err}
+use Rattle.std.proofs.Common.{◌≡◌, ℕ, ◌+◌, ◌<◌, ◌≤◌, inl, inr, true, false, List, [], ◌++◌, length, refl, sym, ap, ◌∙◌, subst, ⊎_elim, append_assoc, append-nil, arith, string_bytes, Result, Ok, Err}
 use Rattle.std.specs.Prelude.{⊤}
 use Rattle.std.specs.Str.Lines.{lines}
-use Rattle.lti_outside.specs.Traffic.{Traffic, Moves, no_fault, read_fault, write_fault, IsAtEnd, IsLeft, GivesFront}
+use Rattle.lti_outside.specs.Traffic.{Traffic, Moves, no_fault, read_fault, IsAtEnd, IsLeft, GivesFront}
 use Rattle.lti_outside.specs.declared.limits.Limits.{Limits}
 use Rattle.lti_outside.proofs.TrafficLemmas.{Moves-same, Moves-then, Moves-gives, IsAtEnd-gives, IsLeft-at_end}
-use Rattle.lti_machine.specs.declared.entry.Entry.{Entry}
 use Rattle.lti_server.specs.Command.{CheckCommand}
 use Rattle.lti_server.specs.Verdicts.{IsAnswered, AnswersAll, AnswersBefore, AnswersFront, Answers, Checks}
-use Rattle.lti_server.specs.SoFar.{IsSoFar, LedTo, Feeds, Finishes, Turns, IsFresh, budget}
+use Rattle.lti_server.specs.SoFar.{LedTo, Feeds, Finishes, Turns, IsFresh, budget}
 use Rattle.lti_server.specs.declared.answered.Answered.{Answered}
 use Rattle.lti_server.specs.declared.stop.Stop.{Stop}
 use Rattle.lti_server.specs.declared.stop.Stop.TheVariants.{ReadFault, WriteFault, NoMemory, Refused}

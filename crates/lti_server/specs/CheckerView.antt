@@ -3,8 +3,6 @@ use Rattle.std.specs.Prelude.{◌≡◌, ◌≤◌, ℕ, List, length}
 use Rattle.oauth_text.specs.Form.{IsForm, pairs_of}
 use Rattle.oauth_sign.specs.BaseUri.{base_uri_of}
 use Rattle.lti_machine.specs.Sound.{IsSound, greatest_moment}
-use Rattle.lti_machine.specs.declared.call.Call.{Call}
-use Rattle.lti_machine.specs.declared.call.Action.TheVariants.{Note}
 use Rattle.lti_server.specs.Command.{CheckCommand}
 use Rattle.lti_server.specs.CommandView.{command_of}
 use Rattle.lti_server.specs.Protocol.{Credentials}

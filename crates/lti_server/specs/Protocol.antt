@@ -1,6 +1,6 @@
 -- The protocol parameters of a request (RFC 5849, section 3.1) and their faults of status 400. The body hash is that
 -- of the OAuth Request Body Hash draft.
-use Rattle.std.specs.Prelude.{◌≡◌, ℕ, Bool, false, not, ◌&&◌, ◌||◌, ◌==◌, nat_lt, List, [], ◌∷◌, length, map, filter, codes, bytes_eq}
+use Rattle.std.specs.Prelude.{◌≡◌, ℕ, Bool, false, not, ◌||◌, ◌==◌, nat_lt, List, [], ◌∷◌, length, map, filter, codes, bytes_eq}
 use Rattle.std.specs.List.{list_any}
 use Rattle.std.specs.Str.Parse.{digits_value}
 use Rattle.lti_outside.specs.declared.pairs.Pair.{Pair}

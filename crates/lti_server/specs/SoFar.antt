@@ -1,5 +1,5 @@
 -- The lines that were answered so far, in whatever pieces their bytes came.
-use Rattle.std.specs.Prelude.{◌≡◌, Bool, true, false, ◌≤◌, ◌<◌, ◌⊎◌, ◌+◌, ◌-◌, ◌*◌, ℕ, List, [], ◌∷◌, ◌++◌, length, string_bytes, ⊤, Result, Ok, Err}
+use Rattle.std.specs.Prelude.{◌≡◌, Bool, true, false, ◌≤◌, ◌<◌, ◌⊎◌, ◌+◌, ◌-◌, ◌*◌, ℕ, List, [], ◌++◌, length, string_bytes, ⊤, Result, Ok, Err}
 use Rattle.std.specs.Str.Lines.{lines}
 use Rattle.lti_outside.specs.Traffic.{Traffic, Moves, no_fault}
 use Rattle.lti_outside.specs.declared.limits.Limits.{Limits}

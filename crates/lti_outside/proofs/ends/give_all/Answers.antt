@@ -1,4 +1,4 @@
-use Rattle.std.proofs.Common.{[], ◌++◌, take, append-nil, refl, subst, arith}
+use Rattle.std.proofs.Common.{[], ◌++◌, take, refl, arith}
 use Rattle.std.proofs.lemmas.Grind.{common_steps}
 use Rattle.lti_outside.proofs.TrafficLemmas.{Moves-same, Moves-gives}
 use Rattle.lti_outside.proofs.ends.give_all.Goals as goal

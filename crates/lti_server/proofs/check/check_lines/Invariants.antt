@@ -1,6 +1,6 @@
 use Rattle.std.proofs.Common.{◌≡◌, ◌<◌, List, ℕ, [], vec_len, string_bytes}
 use Rattle.lti_outside.specs.Traffic.{Moves, no_fault}
-use Rattle.lti_server.specs.CheckerView.{asked, IsReady}
+use Rattle.lti_server.specs.CheckerView.{asked}
 use Rattle.lti_server.specs.SoFar.{LedTo, budget}
 use Rattle.lti_server.proofs.check.check_lines.Given as goal
 

@@ -1,6 +1,6 @@
-use Rattle.std.proofs.Common.{◌≡◌, ◌<◌, ℕ, [], length, take, subst, arith, length-take}
+use Rattle.std.proofs.Common.{◌<◌, ℕ, [], length, take, subst, arith, length-take}
 use Rattle.std.proofs.lemmas.Result.{err_from_is_err_and}
-use Rattle.lti_outside.specs.Traffic.{Moves, no_fault, IsAtEnd}
+use Rattle.lti_outside.specs.Traffic.{Moves, no_fault}
 use Rattle.lti_server.specs.CheckerView.{asked}
 use Rattle.lti_server.proofs.TurnLemmas.{take_failed, end_write_failed, end_stopped, end_done, go_write_failed, go_stopped, go_on}
 use Rattle.lti_server.proofs.check.turn.Goals as goal

@@ -1,4 +1,4 @@
-use Rattle.std.proofs.Common.{refl, sym, ◌∙◌}
+use Rattle.std.proofs.Common.{sym, ◌∙◌}
 use Rattle.lti_server.proofs.ProtocolLemmas.{fault_incomplete, fault_timestamp, fault_text, fault_none}
 use Rattle.lti_server.proofs.protocol.read_statement.Goals as goal
 

@@ -1,4 +1,4 @@
-use Rattle.std.proofs.Common.{ℕ, List, refl, sym, subst, Ok, Err}
+use Rattle.std.proofs.Common.{refl, subst, Ok, Err}
 use Rattle.lti_server.specs.Command.{CheckCommand, texts}
 use Rattle.lti_server.specs.CommandView.{command_of}
 use Rattle.lti_server.specs.Ending.{EndsWith}

@@ -1,4 +1,4 @@
-use Rattle.std.proofs.Common.{◌≡◌, ◌++◌, inl, inr, refl, sym, ap, ◌∙◌, subst, rules}
+use Rattle.std.proofs.Common.{◌≡◌, ◌++◌, inr, refl, ◌∙◌, rules}
 use Rattle.lti_server.specs.CheckerView.{asked}
 use Rattle.lti_server.specs.Checked.{parameters, IsSignedBy}
 use Rattle.lti_server.specs.Protocol.{signature_name}
