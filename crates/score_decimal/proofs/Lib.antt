@@ -1,0 +1,3 @@
+pub mod DigitSums
+pub mod FractionLemmas
+pub mod WrittenLemmas
