@@ -1,3 +1,4 @@
 pub mod DigitSums
 pub mod FractionLemmas
 pub mod WrittenLemmas
+pub mod PrintedLemmas

@@ -1,7 +1,9 @@
 // A score.
-ghost use Rattle.std.specs.Prelude.{◌≡◌, ℕ, ◌^◌, ◌≤◌, ◌↔◌, Some};
+ghost use Rattle.std.specs.Prelude.{◌≡◌, ℕ, ◌^◌, ◌≤◌, ◌↔◌, Some, take};
+ghost use Rattle.score_decimal.specs.Printed.{score_text};
 ghost use Rattle.score_decimal.specs.Written.{IsWritten};
 
+use crate::print::write_units;
 use crate::read::units_of;
 use std::marker::Model;
 
@@ -40,5 +42,14 @@ impl Score {
         ensures range { result ≤ 10 ^ 30 }
     {
         self.units
+    }
+
+    /// Prints the score at the front of `room` and answers the length of the text: `0`, `1`, or `0.` and
+    /// the fraction without the zeros at its end. Takes no memory.
+    pub fn print_into(&self, room: &mut [u8; 32]) -> usize
+        ensures within { result ≤ 32 }
+        ensures text { take result room.new ≡ score_text self.now }
+    {
+        write_units(self.units, room)
     }
 }

@@ -1,4 +1,5 @@
-use crate::Score;
+use crate::{Scale, Score, ceiling_points, floor_points, nearest_points};
+use std::test::Fail;
 
 const ONE: u128 = 1_000_000_000_000_000_000_000_000_000_000;
 
@@ -65,4 +66,68 @@ fn other_texts_are_refused(rt: HostRuntime) {
     for text in texts {
         assert!(rt; Score::read(text) == None);
     }
+}
+
+#[test]
+fn scores_are_printed_shortest(rt: HostRuntime) {
+    let texts = [
+        ("000", "0"),
+        (".0", "0"),
+        ("1.0", "1"),
+        ("1.", "1"),
+        ("0.920", "0.92"),
+        (".5", "0.5"),
+        ("0.05", "0.05"),
+        ("0.10203000", "0.10203"),
+        (
+            "0.000000000000000000000000000001",
+            "0.000000000000000000000000000001",
+        ),
+        (
+            "0.999999999999999999999999999999",
+            "0.999999999999999999999999999999",
+        ),
+    ];
+    for (text, printed) in texts {
+        let mut room = [b'x'; 32];
+        match Score::read(text) {
+            Some(score) => {
+                let len = score.print_into(&mut room);
+                assert!(rt; &room[..len] == printed.as_bytes());
+            }
+            None => assert!(rt; false),
+        }
+    }
+}
+
+fn all_points(rt: &HostRuntime, text: &str) -> Result<(u32, u32, u32), Fail> {
+    let alloc = rt.alloc();
+    let floor = Scale::new(Box::new(alloc, floor_points)?);
+    let nearest = Scale::new(Box::new(alloc, nearest_points)?);
+    let ceiling = Scale::new(Box::new(alloc, ceiling_points)?);
+    match Score::read(text) {
+        Some(score) => Ok((
+            floor.points(score, 1_000_000),
+            nearest.points(score, 1_000_000),
+            ceiling.points(score, 1_000_000),
+        )),
+        None => Ok((7, 7, 7)),
+    }
+}
+
+#[test]
+fn scales_turn_scores_into_points(rt: HostRuntime) -> Result<(), Fail> {
+    let cases = [
+        ("0", (0, 0, 0)),
+        ("000", (0, 0, 0)),
+        ("0.5", (500_000, 500_000, 500_000)),
+        ("1", (1_000_000, 1_000_000, 1_000_000)),
+        ("0.0000005", (0, 1, 1)),
+        ("0.0000004", (0, 0, 1)),
+        ("0.9999999", (999_999, 1_000_000, 1_000_000)),
+    ];
+    for (text, points) in cases {
+        assert!(rt; all_points(&rt, text)? == points);
+    }
+    Ok(())
 }
