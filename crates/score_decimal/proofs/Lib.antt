@@ -2,3 +2,4 @@ pub mod DigitSums
 pub mod FractionLemmas
 pub mod WrittenLemmas
 pub mod PrintedLemmas
+pub mod WritingLemmas

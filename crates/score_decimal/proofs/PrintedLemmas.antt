@@ -1,5 +1,5 @@
 -- The digits of a number in a count of places.
-use Rattle.std.proofs.Common.{◌≡◌, ℕ, zero, suc, ◌+◌, ◌-◌, ◌*◌, ◌/◌, ◌%◌, ◌^◌, ◌<◌, ◌≤◌, true, false, ◌==◌, List, [], ◌∷◌, ◌++◌, length, arith, take, set, inl, inr, append_assoc, ◌≢◌, length-set, sym, ap, ◌∙◌, refl}
+use Rattle.std.proofs.Common.{◌≡◌, ℕ, zero, suc, ◌+◌, ◌-◌, ◌/◌, ◌%◌, ◌^◌, ◌<◌, ◌≤◌, false, ◌==◌, List, [], ◌∷◌, ◌++◌, length, arith, take, set, inl, inr, append_assoc, ◌≢◌, length-set, sym, ap, ◌∙◌, refl}
 use Rattle.std.proofs.lemmas.Bool.Decides.{nat_tests}
 use Rattle.std.proofs.Math.Nat.{pow-suc, mul-div_cancel, div-lt_iff_lt-mul}
 use Rattle.std.proofs.lemmas.Bool.{cases_lt, ne_eqb}

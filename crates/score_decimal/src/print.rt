@@ -1,8 +1,12 @@
 // Printing a score.
-ghost use Rattle.std.specs.Prelude.{◌≡◌, ◌^◌, ◌<◌, ◌≤◌, ◌++◌, length, take};
+ghost use Rattle.std.specs.Prelude.{◌≡◌, ◌^◌, ◌<◌, ◌≤◌, ◌++◌, length, take, IfOk};
+ghost use Rattle.std.specs.Str.{IsAscii};
+ghost use Rattle.std.specs.String.{string_bytes};
 ghost use Rattle.score_decimal.specs.Printed.{digits_in, score_text};
 
 use crate::digits::ONE;
+use lti_outside::NoMemory;
+use std::alloc::Global;
 
 /// Writes the text of the units at the front of `room`, and answers its length.
 pub fn write_units(units: u128, room: &mut [u8]) -> usize
@@ -41,4 +45,15 @@ fn write_fraction(units: u128, room: &mut [u8]) -> usize
         at += 1;
     }
     at
+}
+
+/// The text of these bytes.
+pub fn ascii_text(alloc: Global, bytes: &[u8]) -> Result<String, NoMemory>
+    requires { IsAscii bytes.now }
+    ensures { IfOk result (λ text. string_bytes text ≡ bytes.now) }
+{
+    match str::from_utf8(bytes) {
+        Ok(text) => Ok(String::from_str(alloc, text)?),
+        Err(_) => unreachable!(),
+    }
 }

@@ -1,10 +1,13 @@
 // A score.
-ghost use Rattle.std.specs.Prelude.{◌≡◌, ℕ, ◌^◌, ◌≤◌, ◌↔◌, Some, take};
+ghost use Rattle.std.specs.Prelude.{◌≡◌, ℕ, ◌^◌, ◌≤◌, ◌↔◌, Some, IfOk, take};
+ghost use Rattle.std.specs.String.{string_bytes};
 ghost use Rattle.score_decimal.specs.Printed.{score_text};
 ghost use Rattle.score_decimal.specs.Written.{IsWritten};
 
-use crate::print::write_units;
+use crate::print::{ascii_text, write_units};
 use crate::read::units_of;
+use lti_outside::NoMemory;
+use std::alloc::Global;
 use std::marker::Model;
 
 /// A score from 0 to 1, exact to 30 places.
@@ -49,7 +52,18 @@ impl Score {
     pub fn print_into(&self, room: &mut [u8; 32]) -> usize
         ensures within { result ≤ 32 }
         ensures text { take result room.new ≡ score_text self.now }
+        ensures writes { (n : ℕ) → IsWritten (take result room.new) n ↔ n ≡ self.now }
     {
         write_units(self.units, room)
+    }
+
+    /// The text of the score, as `print_into` prints it.
+    pub fn print(&self, alloc: Global) -> Result<String, NoMemory>
+        ensures text { IfOk result (λ text. string_bytes text ≡ score_text self.now) }
+        ensures writes { IfOk result (λ text. (n : ℕ) → IsWritten (string_bytes text) n ↔ n ≡ self.now) }
+    {
+        let mut room = [0; 32];
+        let len = self.print_into(&mut room);
+        ascii_text(alloc, &room[..len])
     }
 }

@@ -69,7 +69,7 @@ fn other_texts_are_refused(rt: HostRuntime) {
 }
 
 #[test]
-fn scores_are_printed_shortest(rt: HostRuntime) {
+fn scores_are_printed_shortest(rt: HostRuntime) -> Result<(), Fail> {
     let texts = [
         ("000", "0"),
         (".0", "0"),
@@ -94,10 +94,12 @@ fn scores_are_printed_shortest(rt: HostRuntime) {
             Some(score) => {
                 let len = score.print_into(&mut room);
                 assert!(rt; &room[..len] == printed.as_bytes());
+                assert!(rt; score.print(rt.alloc())?.as_str() == printed);
             }
             None => assert!(rt; false),
         }
     }
+    Ok(())
 }
 
 fn all_points(rt: &HostRuntime, text: &str) -> Result<(u32, u32, u32), Fail> {

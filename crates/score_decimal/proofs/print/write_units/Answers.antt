@@ -1,4 +1,4 @@
-use Rattle.std.proofs.Common.{◌≡◌, ◌∙◌, ◌++◌, sym, arith, ap}
+use Rattle.std.proofs.Common.{◌∙◌, ◌++◌, sym, ap}
 use Rattle.score_decimal.specs.Printed.{digits_in}
 use Rattle.score_decimal.proofs.PrintedLemmas.{text_zero, text_one, text_between, one_byte, two_bytes}
 use Rattle.score_decimal.proofs.print.write_units.Goals as goal

@@ -1,4 +1,4 @@
-use Rattle.std.proofs.Common.{◌≡◌, ◌∙◌, sym, arith, ap, subst, true, ◌*◌, ◌+◌, ◌-◌, ◌^◌, ◌≤◌, ◌<◌, ℕ, Some, IfSome, Option}
+use Rattle.std.proofs.Common.{◌≡◌, ◌∙◌, sym, arith, ap, subst, ◌*◌, ◌+◌, ◌-◌, ◌^◌, ◌≤◌, ◌<◌, ℕ, Some, IfSome, Option}
 use Rattle.std.specs.Str.Parse.{digits_value}
 use Rattle.score_decimal.specs.Written.{IsWritten}
 use Rattle.score_decimal.proofs.FractionLemmas.{within_none, within_some}

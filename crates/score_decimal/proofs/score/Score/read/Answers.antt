@@ -1,4 +1,4 @@
-use Rattle.std.proofs.Common.{◌≡◌, ℕ, List, Some, Option, subst}
+use Rattle.std.proofs.Common.{ℕ, List, subst}
 use Rattle.score_decimal.specs.Written.{IsWritten}
 use Rattle.score_decimal.proofs.score.Score.read.Goals as goal
 
