@@ -25,7 +25,8 @@ impl Scale {
         Scale { rule }
     }
 
-    /// The points of the score out of `max`, which is from 1 to 1,000,000.
+    /// The points of the score out of `max`, which is from 1 to 1,000,000: at most `max`, and less than one
+    /// point from the exact share.
     pub fn points(&self, score: Score, max: u32) -> u32
         requires least { 1 ≤ max }
         requires greatest { max ≤ 1000000 }
