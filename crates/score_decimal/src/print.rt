@@ -38,7 +38,7 @@ fn write_fraction(units: u128, room: &mut [u8]) -> usize
     let mut rest = units;
     let mut weight = ONE / 10;
     let mut at = 2;
-    while rest > 0 {
+    'digits: while rest > 0 {
         room[at] = b'0' + (rest / weight) as u8;
         rest %= weight;
         weight /= 10;

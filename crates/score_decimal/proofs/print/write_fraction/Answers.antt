@@ -8,34 +8,34 @@ use Rattle.score_decimal.proofs.print.write_fraction.Goals as goal
 
 pub nonzero_div-room : goal.nonzero_div-room
 nonzero_div-room c =
-    let left = place_left c.loop-rest.at c.loop-rest.rest c.loop-rest.invariant.within.1 c.loop-rest.invariant.small c.loop-rest-test.true in
-    let weight = weight_is c.loop-rest.at c.loop-rest.weight left c.loop-rest.invariant.weight in
-    omega (arith, weight, ten_pos (31 - c.loop-rest.at))
+    let left = place_left c.digits.at c.digits.rest c.digits.invariant.within.1 c.digits.invariant.small c.digits-test.true in
+    let weight = weight_is c.digits.at c.digits.weight left c.digits.invariant.weight in
+    omega (arith, weight, ten_pos (31 - c.digits.at))
 
 pub nonzero_rem-rest : goal.nonzero_rem-rest
 nonzero_rem-rest c =
-    let left = place_left c.loop-rest.at c.loop-rest.rest c.loop-rest.invariant.within.1 c.loop-rest.invariant.small c.loop-rest-test.true in
-    let weight = weight_is c.loop-rest.at c.loop-rest.weight left c.loop-rest.invariant.weight in
-    omega (arith, weight, ten_pos (31 - c.loop-rest.at))
+    let left = place_left c.digits.at c.digits.rest c.digits.invariant.within.1 c.digits.invariant.small c.digits-test.true in
+    let weight = weight_is c.digits.at c.digits.weight left c.digits.invariant.weight in
+    omega (arith, weight, ten_pos (31 - c.digits.at))
 
-pub loop-rest-preserved : goal.loop-rest-preserved
-loop-rest-preserved c =
-    let left = place_left c.loop-rest.at c.loop-rest.rest c.loop-rest.invariant.within.1 c.loop-rest.invariant.small c.loop-rest-test.true in
-    let weight = weight_is c.loop-rest.at c.loop-rest.weight left c.loop-rest.invariant.weight in
-    let after : 32 - (c.loop-rest.at + 1) ≡ 31 - c.loop-rest.at = omega arith in
-    let pos : 0 < c.loop-rest.weight = omega (arith, weight, ten_pos (31 - c.loop-rest.at)) in
-    let power : 10 ^ (32 - (c.loop-rest.at + 1)) ≡ c.loop-rest.weight = ap (λ k. 10 ^ k) after ∙ sym weight in
-    let below = mod-lt c.loop-rest.rest pos in
+pub digits-preserved : goal.digits-preserved
+digits-preserved c =
+    let left = place_left c.digits.at c.digits.rest c.digits.invariant.within.1 c.digits.invariant.small c.digits-test.true in
+    let weight = weight_is c.digits.at c.digits.weight left c.digits.invariant.weight in
+    let after : 32 - (c.digits.at + 1) ≡ 31 - c.digits.at = omega arith in
+    let pos : 0 < c.digits.weight = omega (arith, weight, ten_pos (31 - c.digits.at)) in
+    let power : 10 ^ (32 - (c.digits.at + 1)) ≡ c.digits.weight = ap (λ k. 10 ^ k) after ∙ sym weight in
+    let below = mod-lt c.digits.rest pos in
     record {
       within = (omega arith, omega arith);
       room = search rules;
       small = omega (arith, below, power);
       weight = ap (λ p. p / 10) (sym power);
-      text = step_text c.loop-rest.at c.loop-rest.rest c.loop-rest.weight c.loop-rest.room c.args.room.now c.args.units left c.loop-rest.invariant.room weight c.loop-rest-test.true c.loop-rest.invariant.text;
+      text = step_text c.digits.at c.digits.rest c.digits.weight c.digits.room c.args.room.now c.args.units left c.digits.invariant.room weight c.digits-test.true c.digits.invariant.text;
     }
 
 pub returns-clause-text : goal.returns-clause-text
 returns-clause-text c =
-    let over : c.loop-rest.rest ≡ 0 = omega arith in
-    let none : digits_in (32 - c.loop-rest.at) c.loop-rest.rest ≡ [] = ap (λ r. digits_in (32 - c.loop-rest.at) r) over ∙ digits_end (32 - c.loop-rest.at) in
-    sym (append-nil (take c.loop-rest.at c.loop-rest.room)) ∙ ap (λ x. take c.loop-rest.at c.loop-rest.room ++ x) (sym none) ∙ c.loop-rest.invariant.text
+    let over : c.digits.rest ≡ 0 = omega arith in
+    let none : digits_in (32 - c.digits.at) c.digits.rest ≡ [] = ap (λ r. digits_in (32 - c.digits.at) r) over ∙ digits_end (32 - c.digits.at) in
+    sym (append-nil (take c.digits.at c.digits.room)) ∙ ap (λ x. take c.digits.at c.digits.room ++ x) (sym none) ∙ c.digits.invariant.text

@@ -2,8 +2,8 @@ use Rattle.std.proofs.Common.{◌≡◌, ◌≤◌, ◌<◌, ◌-◌, ◌/◌, �
 use Rattle.score_decimal.specs.Printed.{digits_in}
 use Rattle.score_decimal.proofs.print.write_fraction.Given as goal
 
-abbrev pub invariant-loop-rest : goal.invariant-loop-rest
-invariant-loop-rest l =
+abbrev pub invariant-digits : goal.invariant-digits
+invariant-digits l =
     record {
       within : (2 ≤ l.at) × (l.at ≤ 32);
       room : length l.room ≡ 32;
@@ -12,5 +12,5 @@ invariant-loop-rest l =
       text : take l.at l.room ++ digits_in (32 - l.at) l.rest ≡ take 2 l.fn.room ++ digits_in 30 l.fn.units;
     }
 
-abbrev pub decreases-loop-rest : goal.decreases-loop-rest
-decreases-loop-rest l = 32 - l.at
+abbrev pub decreases-digits : goal.decreases-digits
+decreases-digits l = 32 - l.at
