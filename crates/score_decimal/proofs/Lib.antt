@@ -1,0 +1,5 @@
+pub mod DigitSums
+pub mod FractionLemmas
+pub mod WrittenLemmas
+pub mod PrintedLemmas
+pub mod WritingLemmas
