@@ -1,5 +1,5 @@
--- Which number a score text writes (LTI 1.1.1 section 6: a decimal number from 0.0 to 1.0). The spellings,
--- the 40 characters and the 30 places are this project's own rules.
+-- Which number a score text writes (LTI 1.1.1, Basic Outcomes service: a decimal number from 0.0 to 1.0). The
+-- spellings, the 40 characters and the 30 places are this project's own rules.
 use Rattle.std.specs.Prelude.{◌≡◌, ℕ, ◌+◌, ◌*◌, ◌^◌, ◌≤◌, List, length, IsTrue, ◌==◌}
 use Rattle.std.specs.List.{list_all, before_first, after_first}
 use Rattle.std.specs.Char.{is_ascii_digit}
