@@ -5,3 +5,5 @@ pub mod Memory
 pub mod Held
 pub mod Decimal
 pub mod Limits
+pub mod Moment
+pub mod Words

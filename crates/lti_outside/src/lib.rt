@@ -6,6 +6,7 @@
 #![tactic(auto)]
 
 mod bytes;
+mod clock;
 mod decimal;
 mod ends;
 mod limits;
@@ -14,6 +15,7 @@ mod memory_sink;
 mod memory_source;
 mod no_memory;
 mod pairs;
+mod random;
 mod std_ends;
 mod tap;
 #[cfg(test)]
@@ -21,6 +23,7 @@ mod tests;
 mod text;
 
 pub use bytes::Bytes;
+pub use clock::{Clock, FixedClock, SystemClock};
 pub use decimal::read_decimal;
 pub use ends::{Link, Outside, ReadFault, Sink, Source, WriteFault, give_all};
 pub use limits::Limits;
@@ -29,6 +32,7 @@ pub use memory_sink::MemorySink;
 pub use memory_source::MemorySource;
 pub use no_memory::NoMemory;
 pub use pairs::{Pair, Pairs};
+pub use random::{ListRandom, Random, SystemRandom};
 pub use std_ends::{StdLink, StdSink, StdSource};
 pub use tap::Tap;
 pub use text::Text;

@@ -147,3 +147,19 @@ fn ends_over_readers_and_writers(rt: HostRuntime) -> Result<(), Fail> {
     assert!(rt; give_all(&mut StdSink::new(Broken), b"x") == Err(WriteFault));
     Ok(())
 }
+
+#[test]
+fn clocks_give_moments(rt: HostRuntime) {
+    assert_eq!(rt; FixedClock::new(1_400_000_000).now(), 1_400_000_000);
+    // a day in 2020, which any clock that was set is behind
+    assert!(rt; SystemClock::new(&rt).now() > 1_600_000_000);
+}
+
+#[test]
+fn listed_words_come_in_order(rt: HostRuntime) -> Result<(), Fail> {
+    let mut random = ListRandom::new([7u64, u64::MAX].to_vec(rt.alloc())?);
+    assert_eq!(rt; random.word(), 7);
+    assert_eq!(rt; random.word(), u64::MAX);
+    assert_eq!(rt; random.word(), 0);
+    Ok(())
+}
