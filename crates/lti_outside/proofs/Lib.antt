@@ -2,3 +2,5 @@ pub mod BoolLemmas
 pub mod DigitLemmas
 pub mod PieceLemmas
 pub mod TrafficLemmas
+pub mod DiskMomentLemmas
+pub mod DiskCallLemmas

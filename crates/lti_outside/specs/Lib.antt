@@ -7,3 +7,8 @@ pub mod Decimal
 pub mod Limits
 pub mod Moment
 pub mod Words
+pub mod Disk
+pub mod DiskMoments
+pub mod DiskLog
+pub mod DiskLaws
+pub mod MemoryDisk

@@ -33,6 +33,13 @@ impl Bytes {
         }
     }
 
+    /// The bytes of a vector, without a copy.
+    pub fn from_vec(bytes: Vec<u8>) -> Bytes
+        ensures { result.list ≡ bytes.items }
+    {
+        Bytes { bytes }
+    }
+
     /// How many more bytes fit without asking for memory.
     pub fn spare(&self) -> usize
         ensures { result ≡ self.now.room }

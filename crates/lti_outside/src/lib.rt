@@ -1,5 +1,5 @@
 //! The outside as the other crates see it: plain values, the ends of a connection with counts of their
-//! faults, and the limits of a run.
+//! faults, disks by what a crash may leave of them, and the limits of a run.
 //!
 //! Each value is seen by contracts as a list. An end of a connection may tell its bytes, and then each
 //! call says what it took and gave; a fault is answered only where its count rose.
@@ -8,8 +8,14 @@
 mod bytes;
 mod clock;
 mod decimal;
+mod disk;
+mod disk_call;
+#[cfg(test)]
+mod disk_tests;
 mod ends;
+mod file_disk;
 mod limits;
+mod memory_disk;
 mod memory_link;
 mod memory_sink;
 mod memory_source;
@@ -17,6 +23,7 @@ mod no_memory;
 mod pairs;
 mod random;
 mod std_ends;
+mod synced;
 mod tap;
 #[cfg(test)]
 mod tests;
@@ -25,8 +32,12 @@ mod text;
 pub use bytes::Bytes;
 pub use clock::{Clock, FixedClock, SystemClock};
 pub use decimal::read_decimal;
+pub use disk::{Disk, DiskFault};
+pub use disk_call::DiskCall;
 pub use ends::{Link, Outside, ReadFault, Sink, Source, WriteFault, give_all};
+pub use file_disk::FileDisk;
 pub use limits::Limits;
+pub use memory_disk::MemoryDisk;
 pub use memory_link::MemoryLink;
 pub use memory_sink::MemorySink;
 pub use memory_source::MemorySource;
@@ -34,5 +45,6 @@ pub use no_memory::NoMemory;
 pub use pairs::{Pair, Pairs};
 pub use random::{ListRandom, Random, SystemRandom};
 pub use std_ends::{StdLink, StdSink, StdSource};
+pub use synced::write_synced;
 pub use tap::Tap;
 pub use text::Text;
