@@ -32,3 +32,8 @@ front_is_run bytes n (suc m) none within fits =
       ap (λ k. take k bytes) one ∙ take_more bytes m 0 (omega (arith, fits)),
       subst HasNoLineFeed (take-take m (n - 1) bytes (omega arith)) (All-take (λ b. (b == 10) ≡ false) m (take (n - 1) bytes) none),
     )
+
+-- a piece of what was held and read was handed on
+pub joined_run : (p r l q s piece rest after : List ℕ) → p ++ r ≡ l ++ q → q ++ s ≡ piece ++ rest → after ≡ l ++ piece → p ++ (r ++ s) ≡ after ++ rest
+joined_run p r l q s piece rest after first second is =
+    joins p r l q s (piece ++ rest) first second ∙ sym (append_assoc l piece rest) ∙ ap (λ x. x ++ rest) (sym is)

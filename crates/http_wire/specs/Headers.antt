@@ -71,9 +71,12 @@ media_in value = map to_ascii_lowercase (trim_end (before_first (λ b. b == 59) 
 abbrev pub is_encoding : (List ℕ × List ℕ) → Bool
 is_encoding header = is_named (codes "Content-Encoding") header && not (is_same_text header.1 (codes "identity"))
 
+abbrev pub is_close : List ℕ → Bool
+is_close item = is_same_text (trim_ows item) (codes "close")
+
 -- `close` is one of the items between commas (RFC 9110, section 7.6.1)
 abbrev pub has_close : List ℕ → Bool
-has_close value = list_any (λ item. is_same_text (trim_ows item) (codes "close")) (slice_split (λ b. b == 44) value)
+has_close value = list_any is_close (slice_split (λ b. b == 44) value)
 
 abbrev pub is_closing : (List ℕ × List ℕ) → Bool
 is_closing header = is_named (codes "Connection") header && has_close header.1

@@ -1,5 +1,5 @@
 // The headers of a head, as places in its bytes.
-ghost use Rattle.std.specs.Prelude.{◌≡◌, ◌≤◌, ◌<◌, ℕ, List, [], ◌∷◌, length, map, take, filter, IfNone, IfSome, All, true, codes};
+ghost use Rattle.std.specs.Prelude.{◌≡◌, ◌==◌, false, MatchOption, slice_index, ◌≤◌, ◌<◌, ℕ, List, [], ◌∷◌, length, map, take, filter, IfNone, IfSome, All, true, codes};
 ghost use Rattle.std.specs.List.{list_all, list_any, before_first};
 ghost use Rattle.std.specs.Char.{is_ascii_digit};
 ghost use Rattle.std.specs.Str.Parse.{digits_value};
@@ -11,6 +11,7 @@ ghost use Rattle.http_wire.specs.Length.{LengthSaid};
 
 use crate::WireFault;
 use httparse::spans::HeaderSpan;
+use memchr::memchr;
 
 pub(crate) fn is_same_text(one: &[u8], other: &[u8]) -> bool
     ensures { result ≡ spec.is_same_text one.now other.now }
@@ -139,12 +140,31 @@ pub(crate) fn is_encoded(head: &[u8], headers: &[HeaderSpan]) -> bool
     false
 }
 
+fn is_close(item: &[u8]) -> bool
+    ensures { result ≡ spec.is_close item.now }
+{
+    is_same_text(trim(item), b"close")
+}
+
+// The place of the first comma.
+fn comma(text: &[u8]) -> Option<usize>
+    ensures { MatchOption result (All (λ b. (b == 44) ≡ false) text.now)
+        (λ end. (end < length text.now) × All (λ b. (b == 44) ≡ false) (take end text.now) × (slice_index text.now end ≡ 44)) }
+{
+    memchr(b',', text)
+}
+
 fn has_close(value: &[u8]) -> bool
     ensures { result ≡ spec.has_close value.now }
 {
-    value
-        .split(|b| *b == b',')
-        .any(|item| is_same_text(trim(item), b"close"))
+    let mut rest = value;
+    while let Some(end) = comma(rest) {
+        if is_close(&rest[..end]) {
+            return true;
+        }
+        rest = &rest[end + 1..];
+    }
+    is_close(rest)
 }
 
 fn is_closing(head: &[u8], header: &HeaderSpan) -> bool
