@@ -1,0 +1,10 @@
+pub mod HeldLemmas
+pub mod ShapeLemmas
+pub mod NumberLemmas
+pub mod HeaderLemmas
+pub mod ConditionLemmas
+pub mod FieldLemmas
+pub mod UniqueLemmas
+pub mod FirstLemmas
+pub mod FaultLemmas
+pub mod CloseLemmas

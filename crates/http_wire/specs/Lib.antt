@@ -1,0 +1,10 @@
+pub mod Message
+pub mod Conditions
+pub mod Shape
+pub mod Lines
+pub mod Headers
+pub mod Head
+pub mod Length
+pub mod Front
+pub mod Spelling
+pub mod Taking

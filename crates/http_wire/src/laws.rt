@@ -1,0 +1,17 @@
+// What holds of all messages.
+ghost use Rattle.http_wire.specs.Spelling.{OneSpelling, NoProperFront, FaultsAreFirst};
+
+/// Bytes begin with one spelling of a request at most.
+pub fn one_spelling()
+    ensures { OneSpelling }
+{}
+
+/// No spelling of a request is a proper front of another.
+pub fn no_proper_front()
+    ensures { NoProperFront }
+{}
+
+/// A fault is the first one, whatever follows the bytes that show it.
+pub fn faults_are_first()
+    ensures { FaultsAreFirst }
+{}

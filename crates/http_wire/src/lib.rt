@@ -1,0 +1,22 @@
+//! Messages of HTTP/1.1 (RFC 9112) on a connection: requests and answers, read from a link and written to it.
+//!
+//! `Wire` takes one message after another, however the bytes are cut, or says the first fault of the bytes. What bytes
+//! spell is one relation, and `laws` says that they begin with one message at most.
+//!
+//! - `message`: requests and answers; `fault`: why there is none; `wire`: the reading end of a connection;
+//! - `intake`: its buffer; `taking`: heads and bodies; `head`: the head of a request; `headers`: its headers.
+#![tactic(auto)]
+
+mod fault;
+mod head;
+mod headers;
+mod intake;
+mod laws;
+mod message;
+mod taking;
+mod wire;
+
+pub use fault::WireFault;
+pub use laws::{faults_are_first, no_proper_front, one_spelling};
+pub use message::{Answered, Media, Request, Response};
+pub use wire::Wire;
