@@ -1,0 +1,6 @@
+pub mod ValueLemmas
+pub mod KeyLemmas
+pub mod ConditionLemmas
+pub mod ResultLemmas
+pub mod CheckedLemmas
+pub mod OneAnswerLemmas

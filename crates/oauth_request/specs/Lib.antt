@@ -1,0 +1,9 @@
+pub mod Status
+pub mod Protocol
+pub mod Secret
+pub mod Conditions
+pub mod Checked
+pub mod Found
+pub mod Reading
+pub mod Given
+pub mod Laws
