@@ -8,3 +8,4 @@ pub mod Length
 pub mod Front
 pub mod Spelling
 pub mod Taking
+pub mod Response

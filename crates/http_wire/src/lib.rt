@@ -7,16 +7,19 @@
 //! - `intake`: its buffer; `taking`: heads and bodies; `head`: the head of a request; `headers`: its headers.
 #![tactic(auto)]
 
+mod draft;
 mod fault;
 mod head;
 mod headers;
 mod intake;
 mod laws;
 mod message;
+mod response;
 mod taking;
 mod wire;
 
 pub use fault::WireFault;
 pub use laws::{faults_are_first, no_proper_front, one_spelling};
 pub use message::{Answered, Media, Request, Response};
+pub use response::{write_answer, write_response};
 pub use wire::Wire;
