@@ -6,3 +6,6 @@ pub mod LineLemmas
 pub mod SoFarLemmas
 pub mod FeedLemmas
 pub mod TurnLemmas
+pub mod TalkLemmas
+pub mod EndLemmas
+pub mod RenderLemmas

@@ -9,3 +9,11 @@ pub mod Verdicts
 pub mod SoFar
 pub mod Status
 pub mod Ending
+pub mod Before
+pub mod State
+pub mod Exchange
+pub mod BeforeView
+pub mod Refusal
+pub mod Talk
+pub mod History
+pub mod Transcript

@@ -9,14 +9,28 @@
 #![tactic(auto)]
 
 mod answered;
+mod asking;
+mod asks;
+mod before;
 mod check;
 mod checker;
 mod command;
+mod pending;
 mod protocol;
+mod refusing;
+mod rendering;
+mod session_end;
+mod sessions;
+mod settings;
 mod stop;
 #[cfg(test)]
 mod tests;
 mod top;
 mod verdict;
 
+pub use asking::Session;
+pub use asks::Ask;
+pub use session_end::SessionEnd;
+pub use sessions::session;
+pub use settings::Settings;
 pub use top::run;

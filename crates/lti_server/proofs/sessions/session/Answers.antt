@@ -1,0 +1,87 @@
+use Rattle.std.proofs.Common.{◌≡◌, ℕ, ◌++◌, ◌∷◌, List, [], refl, sym, ap, ◌∙◌, subst, append-nil, arith}
+use Rattle.lti_outside.specs.Traffic.{Fault, Moves, no_fault, write_fault}
+use Rattle.lti_outside.proofs.TrafficLemmas.{Moves-same, Moves-gives}
+use Rattle.lti_machine.specs.declared.entry.Entry.{Entry}
+use Rattle.lti_server.specs.State.{SessionState}
+use Rattle.lti_server.specs.Exchange.{Member}
+use Rattle.lti_server.specs.History.{Leads}
+use Rattle.lti_server.specs.Talk.{Talks, answered, waiting, ended, answer_bytes}
+use Rattle.lti_server.proofs.TalkLemmas.{Talks-none, Spoken-then, Spoken-caller, Talks-whole, Runs-count, told_ok, told_cut, Leads-push}
+use Rattle.lti_server.proofs.sessions.session.Goals as goal
+
+pub calls-init : goal.calls-init
+calls-init g c =
+    rw c.new-session.ensures record {
+      talk = (
+        [],
+        record { read = []; written = []; fault = no_fault; moves = Moves-same _; talks = Talks-none _ _ _ _ _ _ _ _ (refl, refl, record { kept = refl; count = refl; over = refl; pending = refl; lives = refl }) },
+        refl,
+      );
+      caller = refl;
+    }
+
+pub ask-requires-clause-idle : goal.ask-requires-clause-idle
+ask-requires-clause-idle g c = c.calls.invariant.talk.1.talks.stage_is.2.pending
+
+pub ask-requires-clause-lives : goal.ask-requires-clause-lives
+ask-requires-clause-lives g c = c.calls.invariant.talk.1.talks.stage_is.2.lives
+
+pub returns-in-End : goal.returns-in-End
+returns-in-End g c =
+    let before = c.calls.invariant.talk in
+    let now = Spoken-caller _ _ _ _ _ _ _ _ _ _ _ _ c.calls.invariant.caller c.in-End.ensures.talk in
+    let whole = Spoken-then _ _ _ _ _ _ _ before.0 [] (ended c.in-End.end) before.1 now in
+    record {
+      read = whole.read;
+      written = whole.written;
+      told = before.0 ++ [];
+      fault = whole.fault;
+      moves = whole.moves;
+      answered = subst (λ (ms : List Member). Leads c.args.limits.now.window c.args.solo.now ms c.calls.solo) (sym (append-nil before.0)) before.2;
+      transcript = Talks-whole _ _ _ _ _ _ _ _ _ whole.talks;
+    }
+
+pub returns-in-Err : goal.returns-in-Err
+returns-in-Err g c =
+    let before = c.calls.invariant.talk in
+    let now = Spoken-caller _ _ _ _ _ _ _ _ _ _ _ _ c.calls.invariant.caller c.in-Call.ensures.talk in
+    let asked = Spoken-then _ _ _ _ _ _ _ before.0 [] (waiting c.in-Call.call) before.1 now in
+    let cut = c.in-Err.ensures.cut in
+    let led = subst (λ (ms : List Member). Leads c.args.limits.now.window c.args.solo.now ms c.calls.solo) (sym (append-nil before.0)) before.2 in
+    record {
+      read = asked.read;
+      written = asked.written ++ cut.front;
+      told = (before.0 ++ []) ++ record { call = c.in-Call.call; reply = c.answer-reply.result } ∷ [];
+      fault = write_fault;
+      moves = Moves-gives (subst (λ (f : Fault). Moves (g.L.Outside.traffic c.args.link.now) (g.L.Outside.traffic c.ask.new.link) asked.read asked.written f) asked.talks.stage_is.0 asked.moves) cut.moves;
+      answered = rw c.answer-reply.ensures.kept (Leads-push _ _ _ _ _ _ led c.answer-reply.ensures.decided);
+      transcript = Talks-whole _ _ _ _ _ _ _ _ _ (told_cut _ _ _ _ _ c.tell.new.self _ _ _ _ _ _ _ _ asked.talks refl cut.proper c.in-Err.ensures.err);
+    }
+
+pub calls-smaller : goal.calls-smaller
+calls-smaller g c =
+    let talks = c.in-Call.ensures.talk.talks in
+    let rises = Runs-count _ _ _ _ talks.runs in
+    let same = ap (λ (s : SessionState). s.count) c.in-Ok.ensures.ok in
+    omega (arith, rises, same, talks.stage_is.2.below, talks.stage_is.2.count)
+
+pub calls-preserved : goal.calls-preserved
+calls-preserved g c =
+    let before = c.calls.invariant.talk in
+    let now = Spoken-caller _ _ _ _ _ _ _ _ _ _ _ _ c.calls.invariant.caller c.in-Call.ensures.talk in
+    let asked = Spoken-then _ _ _ _ _ _ _ before.0 [] (waiting c.in-Call.call) before.1 now in
+    let led = subst (λ (ms : List Member). Leads c.args.limits.now.window c.args.solo.now ms c.calls.solo) (sym (append-nil before.0)) before.2 in
+    record {
+      talk = (
+        (before.0 ++ []) ++ record { call = c.in-Call.call; reply = c.answer-reply.result } ∷ [],
+        record {
+          read = asked.read;
+          written = asked.written ++ answer_bytes c.ask.new.self.pending c.answer-reply.result;
+          fault = no_fault;
+          moves = Moves-gives (subst (λ (f : Fault). Moves (g.L.Outside.traffic c.args.link.now) (g.L.Outside.traffic c.ask.new.link) asked.read asked.written f) asked.talks.stage_is.0 asked.moves) c.in-Ok.ensures.told;
+          talks = told_ok _ _ _ _ _ _ _ _ _ _ _ _ _ _ asked.talks refl refl c.in-Ok.ensures.ok;
+        },
+        rw c.answer-reply.ensures.kept (Leads-push _ _ _ _ _ _ led c.answer-reply.ensures.decided),
+      );
+      caller = ap (λ (s : SessionState). s.caller) c.in-Ok.ensures.ok ∙ c.ask.ensures.caller ∙ c.calls.invariant.caller;
+    }

@@ -1,0 +1,266 @@
+// A session: the requests of a connection, their answers, and the calls that they make.
+ghost use Rattle.std.specs.Prelude.{◌≡◌, ◌<◌, ◌+◌, ◌^◌};
+ghost use Rattle.http_wire.specs.Message.{parts_of};
+ghost use Rattle.lti_machine.specs.declared.call.Action.TheVariants.{Note};
+ghost use Rattle.lti_server.specs.Exchange as exchange;
+
+use crate::asks::{Ask, Next};
+use crate::before::{Before, judge};
+use crate::pending::{Pending, reserve_answer};
+use crate::refusing::refuse;
+use crate::rendering::render_into;
+use crate::session_end::SessionEnd;
+use crate::settings::Settings;
+use http_wire::{Media, Request, Wire, WireFault, write_answer, write_response};
+use lti_machine::{Action, Call, Reply};
+use lti_outside::{Clock, Limits, Link, WriteFault};
+use oauth_request::Signed;
+use oauth_sign::BodyHash;
+use std::alloc::Global;
+use std::marker::Model;
+
+/// A session: the reading end of a connection, how many requests it has answered, and whether it owes an answer.
+#[derive(Drop)]
+pub struct Session {
+    wire: Wire,
+    caller: u32,
+    count: u32,
+    over: bool,
+    pending: Option<Pending>,
+    ended: bool,
+}
+
+impl Model for Session {
+    ghost use Rattle.std.specs.Prelude.{◌≡◌, false};
+    ghost use Rattle.std.specs.Option.{option_map};
+    ghost use Rattle.lti_server.specs.State.{SessionState};
+
+    ghost Value = { SessionState };
+
+    ghost view = { λ s. record {
+      kept = s.wire.kept;
+      caller = s.caller;
+      count = s.count;
+      over = s.over;
+      pending = option_map (λ p. p.ends) s.pending;
+      ended = s.ended;
+    } };
+
+    ghost invariant = { λ s. s.ended ≡ false → s.wire.failed ≡ false };
+}
+
+// Whether the connection ends with the answer to this request.
+fn ends_with(request: &Request, count: u32, limits: &Limits) -> bool
+    requires { count < limits.now.requests }
+    ensures fits { count + 1 < 2 ^ 32 }
+    ensures ends { result ≡ exchange.ends_with limits.now count (parts_of request.now) }
+{
+    let most = limits.requests;
+    request.close || count + 1 >= most
+}
+
+// The call that a well signed request makes.
+fn call_of(caller: u32, moment: u64, signed: Signed) -> Call
+    ensures { result ≡ record { caller = caller; moment = moment; key = signed.key; timestamp = signed.timestamp; nonce = signed.nonce; action = Note } }
+{
+    Call {
+        caller,
+        moment,
+        key: signed.key,
+        timestamp: signed.timestamp,
+        nonce: signed.nonce,
+        action: Action::Note,
+    }
+}
+
+impl Session {
+    ghost use Rattle.std.specs.Prelude.{◌≡◌, ◌≤◌, ◌<◌, ◌+◌, ℕ, List, [], ◌++◌, true, false, None, is_some, IsSome, OnOk, OnErr};
+    ghost use Rattle.sha1.specs.Sha1.{sha1};
+    ghost use Rattle.lti_outside.specs.Limits.{IsSound};
+    ghost use Rattle.lti_outside.specs.Traffic.{Moves, Fault, no_fault, GivesFront};
+    ghost use Rattle.http_wire.specs.Message.{parts_of};
+    ghost use Rattle.http_wire.specs.Spelling.{Spelling};
+    ghost use Rattle.lti_server.specs.Talk.{Talks, Spoken, stage_of, next_stage, OnAnswered, answer_bytes, ends_then};
+
+    /// A session of a connection from which nothing was taken. `caller` is the number that its calls have.
+    pub fn new(caller: u32) -> Session
+        ensures { result ≡ record { kept = []; caller = caller; count = 0; over = false; pending = None; ended = false } }
+    {
+        Session {
+            wire: Wire::new(),
+            caller,
+            count: 0,
+            over: false,
+            pending: None,
+            ended: false,
+        }
+    }
+
+    /// Whether it waits for the reply to a call.
+    pub fn waiting(&self) -> bool
+        ensures { result ≡ is_some self.now.pending }
+    {
+        self.pending.is_some()
+    }
+
+    /// Whether the connection has ended: an `ask` has answered `End`, or a `tell` has failed.
+    pub fn ended(&self) -> bool
+        ensures { result ≡ self.now.ended }
+    {
+        self.ended
+    }
+
+    // Answers a request that was read, or makes its call.
+    fn take<L: Link, C: Clock>(
+        &mut self,
+        alloc: Global,
+        request: Request,
+        body_sum: &[u8; 20],
+        link: &mut L,
+        settings: &Settings,
+        clock: &C,
+        limits: &Limits,
+    ) -> Next
+        requires sound { IsSound limits.now }
+        requires sum { body_sum.now ≡ sha1 request.body.list }
+        requires idle { self.old.pending ≡ None }
+        requires lives { self.old.ended ≡ false }
+        requires open { self.old.over ≡ false }
+        requires below { self.old.count < limits.now.requests }
+        ensures talk { (written : List ℕ) × (fault : Fault) × Moves (L.traffic link.old) (L.traffic link.new) [] written fault
+            × ((spelled : List ℕ) → Spelling limits.now spelled (parts_of request)
+            → Talks (record { limits = limits.now; caller = self.old.caller; keys = settings.now.keys; scheme = settings.now.scheme; clock = C.tells clock.now })
+            (L.traffic link.new) (record self.old { kept = spelled ++ self.old.kept }) self.new [] written [] fault (next_stage result)) }
+        ensures caller { self.new.caller ≡ self.old.caller }
+        ensures count { OnAnswered result (self.new.count ≡ self.old.count + 1) }
+    {
+        let ends = ends_with(&request, self.count, limits);
+        match judge(alloc, &request, body_sum, settings, limits) {
+            Ok(Before::Refused(response)) => {
+                self.count += 1;
+                match write_response(link, &response, ends) {
+                    Ok(()) => {
+                        self.over = ends;
+                        Next::Answered
+                    }
+                    Err(_) => {
+                        self.ended = true;
+                        Next::Over(SessionEnd::WriteFault)
+                    }
+                }
+            }
+            Ok(Before::Asked(signed)) => match reserve_answer(alloc, ends) {
+                Ok(pending) => {
+                    self.count += 1;
+                    self.pending = Some(pending);
+                    Next::Asked(call_of(self.caller, clock.now(), signed))
+                }
+                Err(_) => {
+                    self.ended = true;
+                    Next::Over(refuse(link, WireFault::NoMemory))
+                }
+            },
+            Err(_) => {
+                self.ended = true;
+                Next::Over(refuse(link, WireFault::NoMemory))
+            }
+        }
+    }
+
+    // Reads a message, and answers it or makes its call.
+    fn next<L: Link, C: Clock>(
+        &mut self,
+        alloc: Global,
+        link: &mut L,
+        settings: &Settings,
+        clock: &C,
+        limits: &Limits,
+    ) -> Next
+        requires sound { IsSound limits.now }
+        requires idle { self.old.pending ≡ None }
+        requires lives { self.old.ended ≡ false }
+        ensures talk { Spoken (record { limits = limits.now; caller = self.old.caller; keys = settings.now.keys; scheme = settings.now.scheme; clock = C.tells clock.now })
+            (L.traffic link.old) (L.traffic link.new) self.old self.new [] (next_stage result) }
+        ensures caller { self.new.caller ≡ self.old.caller }
+        ensures count { OnAnswered result ((self.new.count ≡ self.old.count + 1) × (self.old.count < limits.now.requests)) }
+    {
+        if self.count >= limits.requests {
+            self.ended = true;
+            return Next::Over(SessionEnd::LimitReached);
+        }
+        if self.over {
+            self.ended = true;
+            return Next::Over(SessionEnd::Ended);
+        }
+        let mut hash = BodyHash::start();
+        match self.wire.read_request(alloc, link, &mut hash, limits) {
+            Ok(Some(request)) => self.take(
+                alloc,
+                request,
+                &hash.finish(),
+                link,
+                settings,
+                clock,
+                limits,
+            ),
+            Ok(None) => {
+                self.ended = true;
+                Next::Over(SessionEnd::Ended)
+            }
+            Err(fault) => {
+                self.ended = true;
+                Next::Over(refuse(link, fault))
+            }
+        }
+    }
+
+    /// Reads messages, and answers those that are refused before the machine is asked, until one makes a call or the
+    /// connection ends. All memory that the answer to the call can need is then taken.
+    ///
+    /// It neither waits for a reply nor has it ended before. Behind an answer that ends the connection, and where
+    /// `limits.requests` messages were answered, it answers `End` and doesn't touch the link.
+    pub fn ask<L: Link, C: Clock>(
+        &mut self,
+        alloc: Global,
+        link: &mut L,
+        settings: &Settings,
+        clock: &C,
+        limits: &Limits,
+    ) -> Ask
+        requires sound { IsSound limits.now }
+        requires idle { self.old.pending ≡ None }
+        requires lives { self.old.ended ≡ false }
+        ensures talk { Spoken (record { limits = limits.now; caller = self.old.caller; keys = settings.now.keys; scheme = settings.now.scheme; clock = C.tells clock.now })
+            (L.traffic link.old) (L.traffic link.new) self.old self.new [] (stage_of result) }
+        ensures caller { self.new.caller ≡ self.old.caller }
+    {
+        'messages: loop {
+            match self.next(alloc, link, settings, clock, limits) {
+                Next::Answered => {}
+                Next::Asked(call) => return Ask::Call(call),
+                Next::Over(end) => return Ask::End(end),
+            }
+        }
+    }
+
+    /// Writes the answer to the call that waits. At an `Err` a proper front of it was written, and the session has ended.
+    /// It takes no memory.
+    pub fn tell<L: Link>(&mut self, link: &mut L, reply: Reply) -> Result<(), WriteFault>
+        requires waits { IsSome self.old.pending }
+        requires lives { self.old.ended ≡ false }
+        ensures told { OnOk result (Moves (L.traffic link.old) (L.traffic link.new) [] (answer_bytes self.old.pending reply) no_fault) }
+        ensures cut { OnErr result (GivesFront (L.traffic link.old) (L.traffic link.new) (answer_bytes self.old.pending reply)) }
+        ensures ok { OnOk result (self.new ≡ record self.old { pending = None; over = ends_then self.old.pending }) }
+        ensures err { OnErr result (self.new.ended ≡ true) }
+    {
+        let Some(pending) = self.pending.take() else {
+            unreachable!()
+        };
+        let Pending { ends, mut body } = pending;
+        let status = render_into(&mut body, reply);
+        self.over = ends;
+        let told = write_answer(link, status, Media::Plain, body.get(), ends);
+        self.ended = told.is_err();
+        told
+    }
+}
