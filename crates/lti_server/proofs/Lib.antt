@@ -9,3 +9,4 @@ pub mod TurnLemmas
 pub mod TalkLemmas
 pub mod EndLemmas
 pub mod RenderLemmas
+pub mod SettingsLemmas

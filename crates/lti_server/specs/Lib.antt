@@ -17,3 +17,5 @@ pub mod Refusal
 pub mod Talk
 pub mod History
 pub mod Transcript
+pub mod Settings
+pub mod SettingsView
