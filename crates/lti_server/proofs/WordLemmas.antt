@@ -1,5 +1,5 @@
 -- Five words.
-use Rattle.std.proofs.Common.{◌≡◌, ℕ, suc, ◌<◌, ◌≤◌, ◌^◌, String, List, [], ◌∷◌, length, get_or, refl, sym, ap, ◌∙◌, subst, ⊎_elim, arith, Result, Option, Some, None, IfOk, MatchOption}
+use Rattle.std.proofs.Common.{◌≡◌, ◌↔◌, Bool, IsTrue, ℕ, suc, ◌<◌, ◌≤◌, ◌^◌, String, List, [], ◌∷◌, length, get_or, refl, sym, ap, ◌∙◌, subst, ⊎_elim, arith, Result, Option, Some, None, IfOk, MatchOption}
 use Rattle.std.specs.Str.Parse.{digits_value}
 use Rattle.std.proofs.lemmas.Bool.{cond-true, cond-false, cases_Bool}
 use Rattle.std.proofs.lemmas.List.{take_all}
@@ -7,7 +7,7 @@ use Rattle.lti_outside.specs.Decimal.{is_decimal, decimal_of}
 use Rattle.lti_outside.proofs.DigitLemmas.{digits_small, decimal_parts}
 use Rattle.oauth_text.specs.Form.{IsForm}
 use Rattle.oauth_text.specs.Url.{UrlParts}
-use Rattle.lti_server.specs.Command.{CheckCommand, IsCheck, IsCheckWords, IsUsage, IsInRange, texts}
+use Rattle.lti_server.specs.Command.{CheckCommand, IsCheck, IsCheckWords, IsNoCheck, IsInRange, texts}
 use Rattle.lti_server.specs.CommandView.{command_of}
 use Rattle.lti_server.specs.declared.command.Check.{Check}
 
@@ -22,6 +22,15 @@ five (v ∷ w ∷ x ∷ y ∷ []) a b c d e len av bw cx dy ez = absurd (cc)
 five (v ∷ w ∷ x ∷ y ∷ z ∷ []) a b c d e len av bw cx dy ez = cc
 five (v ∷ w ∷ x ∷ y ∷ z ∷ u ∷ us) a b c d e len av bw cx dy ez = absurd (cc)
 
+pub one : {X : Type 0} (ws : List X) (a : X) → length ws ≡ 1 → a ≡ get_or ws 0 a → ws ≡ a ∷ []
+one [] a len av = absurd (cc)
+one (v ∷ []) a len av = cc
+one (v ∷ w ∷ ws) a len av = absurd (cc)
+
+-- one text is that text
+pub one_text : (same : Bool) (a b : List ℕ) → IsTrue same ↔ (a ≡ b) → IsTrue same ↔ (a ∷ [] ≡ b ∷ [])
+one_text same a b are = (λ holds. ap (λ (x : List ℕ). x ∷ []) (are.0 holds), λ is. are.1 (cc))
+
 pub IsCheck-length : (ws : List (List ℕ)) (check : CheckCommand) → IsCheck ws check → length ws ≡ 5
 IsCheck-length [] check is = absurd is
 IsCheck-length (v ∷ []) check is = absurd is
@@ -34,9 +43,9 @@ IsCheck-length (v ∷ w ∷ x ∷ y ∷ z ∷ u ∷ us) check is = absurd is
 -- what five words ask is what the list of them asks
 pub read_five : {E : Type 0} (found : Result (Option Check) E) (ws : List (List ℕ)) (n u k s m : List ℕ) → ws ≡ n ∷ u ∷ k ∷ s ∷ m ∷ []
     → IfOk found (λ f. MatchOption f ((check : CheckCommand) → IsCheckWords n u k s m check → ⊥) (λ c. IsCheckWords n u k s m (command_of c)))
-    → IfOk found (λ f. MatchOption f (IsUsage ws) (λ c. IsCheck ws (command_of c)))
+    → IfOk found (λ f. MatchOption f (IsNoCheck ws) (λ c. IsCheck ws (command_of c)))
 read_five found ws n u k s m is one =
-    subst (λ (ws : List (List ℕ)). IfOk found (λ f. MatchOption f (IsUsage ws) (λ c. IsCheck ws (command_of c)))) (sym is) one
+    subst (λ (ws : List (List ℕ)). IfOk found (λ f. MatchOption f (IsNoCheck ws) (λ c. IsCheck ws (command_of c)))) (sym is) one
 
 pub texts-length : {A : Type 0} (ws : List (String A)) → length (texts ws) ≡ length ws
 texts-length [] = refl

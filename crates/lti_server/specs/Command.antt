@@ -29,9 +29,18 @@ abbrev pub IsCheck : List (List ℕ) → CheckCommand → Type 0
 IsCheck (name ∷ url ∷ key ∷ secret ∷ moment ∷ []) check = IsCheckWords name url key secret moment check
 IsCheck _ check = ⊥
 
+-- the words don't ask for `check`
+abbrev pub IsNoCheck : List (List ℕ) → Type 0
+IsNoCheck words = (check : CheckCommand) → IsCheck words check → ⊥
+
+-- the one word `answer`
+abbrev pub IsAnswer : List (List ℕ) → Type 0
+IsAnswer words = words ≡ codes "answer" ∷ []
+
 -- the words are no command
-abbrev pub IsUsage : List (List ℕ) → Type 0
-IsUsage words = (check : CheckCommand) → IsCheck words check → ⊥
+pub record IsUsage (words : List (List ℕ)) : Type 0 where
+  pub no_check : IsNoCheck words
+  pub no_answer : IsAnswer words → ⊥
 
 -- the parts of a command are in their ranges
 pub record IsInRange (check : CheckCommand) : Type 0 where

@@ -19,3 +19,5 @@ pub mod History
 pub mod Transcript
 pub mod Settings
 pub mod SettingsView
+pub mod SettingsRead
+pub mod Answering

@@ -1,6 +1,6 @@
 // The words of the command line.
 ghost use Rattle.std.specs.Prelude.{◌≡◌, ◌↔◌, codes, IsTrue, IfOk, MatchOption};
-ghost use Rattle.lti_server.specs.Command.{CheckCommand, IsCheck, IsCheckWords, IsUsage, texts};
+ghost use Rattle.lti_server.specs.Command.{CheckCommand, IsAnswer, IsCheck, IsCheckWords, IsNoCheck, texts};
 ghost use Rattle.lti_server.specs.CommandView.{command_of};
 
 use lti_outside::{NoMemory, read_decimal};
@@ -60,9 +60,9 @@ fn check_of<'a>(
     }
 }
 
-/// What the words ask of `check`, or none where they are no command.
+/// What the words ask of `check`, or none where they don't ask for it.
 pub fn read_check(alloc: Global, words: &[String]) -> Result<Option<Check<'_>>, NoMemory>
-    ensures { IfOk result (λ found. MatchOption found (IsUsage (texts words.now)) (λ check. IsCheck (texts words.now) (command_of check))) }
+    ensures { IfOk result (λ found. MatchOption found (IsNoCheck (texts words.now)) (λ check. IsCheck (texts words.now) (command_of check))) }
 {
     if words.len() != 5 {
         return Ok(None);
@@ -75,4 +75,20 @@ pub fn read_check(alloc: Global, words: &[String]) -> Result<Option<Check<'_>>, 
         words[3].as_str(),
         words[4].as_str(),
     )
+}
+
+fn is_answer_word(name: &str) -> bool
+    ensures { IsTrue result ↔ (name.now ≡ codes "answer") }
+{
+    name == "answer"
+}
+
+/// Whether the words ask for `answer`.
+pub fn is_answer(words: &[String]) -> bool
+    ensures { IsTrue result ↔ IsAnswer (texts words.now) }
+{
+    match words {
+        [word] => is_answer_word(word.as_str()),
+        _ => false,
+    }
 }

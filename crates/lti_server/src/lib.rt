@@ -9,6 +9,7 @@
 #![tactic(auto)]
 
 mod answered;
+mod answering;
 mod asking;
 mod asks;
 mod before;
@@ -22,6 +23,7 @@ mod rendering;
 mod session_end;
 mod sessions;
 mod settings;
+mod settings_source;
 mod stop;
 #[cfg(test)]
 mod tests;
@@ -32,5 +34,5 @@ pub use asking::Session;
 pub use asks::Ask;
 pub use session_end::SessionEnd;
 pub use sessions::session;
-pub use settings::Settings;
+pub use settings::{Settings, SettingsFault};
 pub use top::run;
