@@ -1,11 +1,15 @@
 //! The program: its words, its real ends, and its status.
 //!
-//! All that it does is `lti_server::run`, over standard input and output. Here stand only the texts of
-//! `--help` and `--version`, and what is printed for a status.
+//! All that it does is `lti_server::run`, over standard input and output, the settings file, the system's clock
+//! and a generator that the system seeds. Here stand only the texts of `--help` and `--version`, and what is
+//! printed for a status.
 #![tactic(auto)]
 
-use lti_outside::{Limits, StdLink};
+use lti_outside::{Limits, StdLink, StdSource, SystemClock, SystemRandom};
 use lti_server::run;
+use rand::rngs::StdRng;
+use std::fs::File;
+use std::io::Read;
 use std::process::ExitCode;
 use std::rt::Env;
 use std::{env, io};
@@ -14,6 +18,9 @@ const USAGE: &str = "\
 lti_cmd check URL KEY SECRET MOMENT
     reads signed launch forms, one a line, and prints a verdict for each:
     accepted, bad form, bad signature, outside N, used or window full
+lti_cmd answer
+    answers the HTTP/1.1 requests of standard input, as a tool that signed launches start,
+    by the scheme and the keys of the file lti.json
 lti_cmd --help
 lti_cmd --version
 
@@ -23,15 +30,20 @@ SECRET    the key's secret
 MOMENT    the time of the check, in seconds since 1970, 1 to 15 digits
 ";
 
+// The settings, in the directory of the run.
+const SETTINGS: &str = "lti.json";
+
 const VERSION: &str = "lti_cmd 0.1.0\n";
 
 // What is printed for a status.
 fn words_of(status: u8) -> &'static str {
     match status {
         2 => "usage",
+        3 => "settings",
         4 => "read fault",
         5 => "write fault",
         8 => "want of memory",
+        9 => "cut short",
         14 => "refused message",
         _ => "unknown status",
     }
@@ -51,6 +63,23 @@ fn is_word(words: &[String], word: &str) -> bool {
     words.len() == 1 && words[0].as_str() == word
 }
 
+// Does what the words ask, with the settings that this reads. A system that gives no seed is a read fault.
+fn work<R: Read + Drop>(rt: &HostRuntime, words: &[String], settings: R) -> u8 {
+    let Ok(generator) = rand::make_rng::<StdRng, _>(rt) else {
+        return 4;
+    };
+    let mut ends = StdLink::new(rt.reader(), io::writer(rt));
+    run(
+        rt.alloc(),
+        words,
+        &mut StdSource::new(settings),
+        &mut ends,
+        &SystemClock::new(rt),
+        &mut SystemRandom::new(generator),
+        &Limits::usual(),
+    )
+}
+
 fn main(rt: HostRuntime) -> ExitCode {
     let Ok(words) = words(&rt) else {
         let _ = eprint!(rt; "{}\n{USAGE}", words_of(2));
@@ -61,8 +90,10 @@ fn main(rt: HostRuntime) -> ExitCode {
     } else if is_word(&words, "--version") {
         print!(rt; "{VERSION}").map_or(5, |()| 0)
     } else {
-        let mut ends = StdLink::new(rt.reader(), io::writer(&rt));
-        run(rt.alloc(), &words, &mut ends, &Limits::usual())
+        match File::open(&rt, SETTINGS) {
+            Ok(file) => work(&rt, &words, file),
+            Err(_) => work(&rt, &words, io::empty()),
+        }
     };
     if status != 0 {
         let _ = eprintln!(rt; "{}", words_of(status));

@@ -10,3 +10,4 @@ pub mod TalkLemmas
 pub mod EndLemmas
 pub mod RenderLemmas
 pub mod SettingsLemmas
+pub mod CutLemmas

@@ -21,3 +21,4 @@ pub mod Settings
 pub mod SettingsView
 pub mod SettingsRead
 pub mod Answering
+pub mod Laws

@@ -16,6 +16,7 @@ mod before;
 mod check;
 mod checker;
 mod command;
+mod laws;
 mod pending;
 mod protocol;
 mod refusing;
@@ -32,6 +33,7 @@ mod verdict;
 
 pub use asking::Session;
 pub use asks::Ask;
+pub use laws::cuts_do_not_matter;
 pub use session_end::SessionEnd;
 pub use sessions::session;
 pub use settings::{Settings, SettingsFault};

@@ -1,0 +1,38 @@
+-- Laws over whole connections (this project's own).
+use Rattle.std.specs.Prelude.{◌≡◌, ℕ, List, ◌++◌, map, Option, ⊤}
+use Rattle.lti_outside.specs.Traffic.{Traffic, Fault, IsLeft}
+use Rattle.lti_outside.specs.Limits.{IsSound}
+use Rattle.lti_outside.specs.declared.limits.Limits.{Limits}
+use Rattle.lti_outside.specs.declared.pairs.Pair.{Pair}
+use Rattle.oauth_text.specs.declared.url.Scheme.{Scheme}
+use Rattle.lti_machine.specs.declared.reply.Reply.{Reply}
+use Rattle.lti_server.specs.declared.session_end.SessionEnd.{SessionEnd}
+use Rattle.lti_server.specs.declared.session_end.SessionEnd.TheVariants.{Ended, LimitReached, CutShort, ReadFault, WriteFault, Refused, NoMemory}
+use Rattle.lti_server.specs.Exchange.{Member}
+use Rattle.lti_server.specs.Talk.{Transcript}
+
+-- no fault of the link and no want of memory ended the connection
+abbrev pub IsUndisturbed : SessionEnd → Type 0
+IsUndisturbed Ended = ⊤
+IsUndisturbed LimitReached = ⊤
+IsUndisturbed CutShort = ⊤
+IsUndisturbed (Refused fault) = ⊤
+IsUndisturbed ReadFault = ⊥
+IsUndisturbed WriteFault = ⊥
+IsUndisturbed NoMemory = ⊥
+
+abbrev pub replies_of : List Member → List Reply
+replies_of told = map (λ m. m.reply) told
+
+-- Two connections that give the same bytes, in whatever pieces, with the same replies, are answered by the same bytes and
+-- end alike, whatever their callers and clocks. What a connection left in its link counts as given.
+abbrev pub CutsDoNotMatter : Type 0
+CutsDoNotMatter =
+    (limits : Limits) (keys : List Pair) (scheme : Scheme) (caller caller' : ℕ) (clock clock' : Option ℕ) (after after' : Traffic)
+    (left left' read written read' written' : List ℕ) (told told' : List Member) (fault fault' : Fault) (end end' : SessionEnd)
+    → IsSound limits
+    → IsLeft after left → IsLeft after' left' → read ++ left ≡ read' ++ left'
+    → replies_of told ≡ replies_of told' → IsUndisturbed end → IsUndisturbed end'
+    → Transcript record { limits = limits; caller = caller; keys = keys; scheme = scheme; clock = clock } after read written told fault end
+    → Transcript record { limits = limits; caller = caller'; keys = keys; scheme = scheme; clock = clock' } after' read' written' told' fault' end'
+    → (written ≡ written') × (end ≡ end')
