@@ -1,6 +1,3 @@
-pub mod ValueLemmas
-pub mod ProtocolLemmas
-pub mod CheckedLemmas
 pub mod WordLemmas
 pub mod LineLemmas
 pub mod SoFarLemmas

@@ -1,6 +1,4 @@
 pub mod Lines
-pub mod Protocol
-pub mod Found
 pub mod Command
 pub mod CommandView
 pub mod Checked

@@ -10,9 +10,9 @@ use Rattle.lti_machine.specs.declared.call.Action.TheVariants.{Note}
 use Rattle.lti_machine.specs.declared.entry.Entry.{Entry}
 use Rattle.lti_machine.specs.declared.reply.Reply.{Reply}
 use Rattle.lti_machine.specs.declared.reply.Reply.TheVariants.{Noted, Outside, Used, WindowFull, NoMemory}
-use Rattle.lti_server.specs.Protocol.{Credentials}
+use Rattle.oauth_request.specs.declared.checking.Signed.{Signed}
 use Rattle.lti_server.specs.Command.{CheckCommand}
-use Rattle.lti_server.specs.Checked.{HasFormFault, HasBadSignature, IsWellSigned}
+use Rattle.lti_server.specs.Checked.{HasFault, IsWellSigned}
 use Rattle.lti_server.specs.Lines.{EndsLine}
 use Rattle.lti_server.specs.Status.{fault_of}
 use Rattle.lti_server.specs.declared.verdict.Verdict.{Verdict}
@@ -21,17 +21,17 @@ use Rattle.lti_server.specs.declared.stop.Stop.{Stop}
 use Rattle.lti_server.specs.declared.stop.Stop.TheVariants as stop
 
 -- the call that a well signed form makes
-abbrev pub call_of : CheckCommand → Credentials → Call
-call_of command says =
-    record { caller = 0; moment = command.moment; key = says.key; timestamp = says.timestamp; nonce = says.nonce; action = Note }
+abbrev pub call_of : CheckCommand → Signed → Call
+call_of command signed =
+    record { caller = 0; moment = command.moment; key = signed.key; timestamp = signed.timestamp; nonce = signed.nonce; action = Note }
 
 -- The verdict of a line, where these calls were accepted before it, and the accepted calls after it.
 abbrev pub Judges : CheckCommand → Limits → List Entry → List ℕ → Verdict → List Entry → Type 0
-Judges command limits before line BadForm later = HasFormFault command.url.query limits.field line × (later ≡ before)
-Judges command limits before line BadSignature later = HasBadSignature command limits.field line × (later ≡ before)
+Judges command limits before line BadForm later = HasFault 400 command limits.field line × (later ≡ before)
+Judges command limits before line BadSignature later = HasFault 401 command limits.field line × (later ≡ before)
 Judges command limits before line (Answered reply) later =
-    (says : Credentials) × IsWellSigned command limits.field line says
-    × (reply ≡ decide before (call_of command says) limits.window) × (later ≡ after before (call_of command says) reply)
+    (signed : Signed) × IsWellSigned command limits.field line signed
+    × (reply ≡ decide before (call_of command signed) limits.window) × (later ≡ after before (call_of command signed) reply)
 
 -- a verdict for each line, in order, down to the accepted calls after the last one; no line is over the limit
 abbrev pub AreVerdicts : CheckCommand → Limits → List Entry → List (List ℕ) → List Verdict → List Entry → Type 0

@@ -1,20 +1,22 @@
 // Which kind of request a posted form is.
-ghost use Rattle.std.specs.Prelude.{◌≡◌, ◌++◌, IfOk};
+ghost use Rattle.std.specs.Prelude.{◌≡◌, IfOk};
+ghost use Rattle.http_wire.specs.Message.{parts_of};
+ghost use Rattle.oauth_text.specs.UrlView as view;
+ghost use Rattle.lti_server.specs.Checked.{request_of};
 
 use crate::command::Check;
-use crate::protocol::read_statement;
+use http_wire::Request;
 use lti_machine::{Action, Call};
-use lti_outside::{Limits, NoMemory, Pairs, Text};
-use oauth_sign::{base_string, base_uri, signature};
-use oauth_text::{FormFault, pairs};
+use lti_outside::{Bytes, Limits, NoMemory, Pair, Pairs, Text};
+use oauth_request::{Keys, check};
+use oauth_text::Url;
 use std::alloc::Global;
 
 /// What `check` is asked, with all that is the same for each line.
 #[derive(Drop)]
 pub struct Checker<'a> {
     check: &'a Check<'a>,
-    query: Pairs,
-    uri: Text,
+    keys: Keys,
     pub limits: Limits,
 }
 
@@ -29,27 +31,33 @@ pub enum Checked {
     Signed(Call),
 }
 
-// All parameters: those of the query, and then those of the form.
-fn joined(query: &Pairs, form: Pairs) -> Result<Pairs, NoMemory>
-    ensures { IfOk result (λ all. all ≡ query.now ++ form) }
+// The request that posts a form to the URL.
+fn post(alloc: Global, url: &Url, form: &[u8]) -> Result<Request, NoMemory>
+    ensures { IfOk result (λ request. parts_of request ≡ request_of (view.parts_of url.now) form.now) }
 {
-    if query.is_empty() {
-        return Ok(form);
-    }
-    let mut all = query.copy()?;
-    all.append(form)?;
-    Ok(all)
+    let mut body = Bytes::new(alloc);
+    body.push(form)?;
+    Ok(Request {
+        method: Text::new(alloc, "POST")?,
+        path: url.path.copy()?,
+        query: url.query.copy()?,
+        host: url.host.copy()?,
+        media: Text::new(alloc, "application/x-www-form-urlencoded")?,
+        encoded: false,
+        authorization: Text::empty(alloc),
+        body,
+        close: false,
+    })
 }
 
 impl<'a> Checker<'a> {
-    ghost use Rattle.std.specs.Prelude.{◌≡◌, ◌↔◌, [], codes, IfOk, IsTrue};
-    ghost use Rattle.oauth_sign.specs.Signature.{IsSignature};
+    ghost use Rattle.std.specs.Prelude.{◌≡◌, IfOk};
     ghost use Rattle.lti_server.specs.CheckerView.{asked, IsReady, IsChecked};
     ghost use Rattle.lti_server.specs.CommandView.{command_of};
     ghost use Rattle.lti_server.specs.Command.{IsInRange};
     ghost use Rattle.lti_outside.specs.Limits.{IsSound};
 
-    /// Makes ready for a command: reads the pairs of its query and makes its base string URI.
+    /// Makes ready for a command, whose key is the one that is known.
     pub fn new(
         alloc: Global,
         check: &'a Check<'a>,
@@ -61,34 +69,19 @@ impl<'a> Checker<'a> {
         ensures asked { IfOk result (λ checker. asked checker ≡ command_of check.now) }
         ensures limits { IfOk result (λ checker. checker.limits ≡ limits.now) }
     {
-        let query = match pairs(alloc, check.url.query.get().as_bytes()) {
-            Ok(query) => query,
-            Err(FormFault::BadForm) => unreachable!(),
-            Err(FormFault::NoMemory) => return Err(NoMemory),
+        let mut known = Pairs::new(alloc);
+        known.push(Pair {
+            name: Text::new(alloc, check.key)?,
+            value: Text::new(alloc, check.secret)?,
+        })?;
+        let Ok(keys) = Keys::new(known) else {
+            unreachable!();
         };
-        let uri = base_uri(
-            alloc,
-            check.url.scheme,
-            &check.url.host,
-            check.url.path.get(),
-        )?;
         Ok(Checker {
             check,
-            query,
-            uri,
+            keys,
             limits: *limits,
         })
-    }
-
-    // Whether a text is the signature of the parameters.
-    fn is_signature(&self, alloc: Global, sent: &str, signed: &Pairs) -> Result<bool, NoMemory>
-        ensures { IfOk result (λ holds. IsTrue holds
-            ↔ IsSignature (codes "POST") self.now.uri signed.now self.now.check.now.secret.now [] sent.now) }
-    {
-        let base = base_string(alloc, "POST", self.uri.get(), signed)?;
-        let text = signature(alloc, base.get(), self.check.secret, "")?;
-        let holds = text.get() == sent;
-        Ok(holds)
     }
 
     /// Which kind of request a form is, where it is posted to the command's URL (RFC 5849, section 3.2).
@@ -96,32 +89,24 @@ impl<'a> Checker<'a> {
         requires { IsReady self.now }
         ensures { IfOk result (IsChecked (asked self.now) self.now.limits.field form.now) }
     {
-        let form = match pairs(alloc, form) {
-            Ok(form) => form,
-            Err(FormFault::BadForm) => return Ok(Checked::BadForm),
-            Err(FormFault::NoMemory) => return Err(NoMemory),
-        };
-        let all = joined(&self.query, form)?;
-        let Some(says) = read_statement(&all, self.limits.field) else {
-            return Ok(Checked::BadForm);
-        };
-        if says.key != self.check.key {
-            return Ok(Checked::BadSignature);
-        }
-        let call = Call {
-            caller: 0,
-            moment: self.check.moment,
-            key: Text::new(alloc, says.key)?,
-            timestamp: says.timestamp,
-            nonce: Text::new(alloc, says.nonce)?,
-            action: Action::Note,
-        };
-        let sent = Text::new(alloc, says.signature)?;
-        let signed = all.without("oauth_signature");
-        if self.is_signature(alloc, sent.get(), &signed)? {
-            Ok(Checked::Signed(call))
-        } else {
-            Ok(Checked::BadSignature)
+        let url = &self.check.url;
+        let request = post(alloc, url, form)?;
+        // The sum of a form isn't looked at.
+        let checked = check(alloc, &request, &[0; 20], &self.keys, url.scheme, &self.limits);
+        match checked {
+            Ok(signed) => Ok(Checked::Signed(Call {
+                caller: 0,
+                moment: self.check.moment,
+                key: signed.key,
+                timestamp: signed.timestamp,
+                nonce: signed.nonce,
+                action: Action::Note,
+            })),
+            Err(fault) => match fault.status() {
+                400 => Ok(Checked::BadForm),
+                401 => Ok(Checked::BadSignature),
+                _ => Err(NoMemory),
+            },
         }
     }
 }

@@ -18,7 +18,6 @@ mod checker;
 mod command;
 mod laws;
 mod pending;
-mod protocol;
 mod refusing;
 mod rendering;
 mod session_end;

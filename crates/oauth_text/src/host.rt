@@ -165,4 +165,15 @@ impl Host {
     {
         host_of(alloc, text.as_bytes())
     }
+
+    /// Another host of the same name and port.
+    pub fn copy(&self) -> Result<Host, NoMemory>
+        ensures name { IfOk result (λ host. host.name ≡ self.now.name) }
+        ensures port { IfOk result (λ host. host.port ≡ self.now.port) }
+    {
+        Ok(Host {
+            name: self.name.copy()?,
+            port: self.port,
+        })
+    }
 }
