@@ -15,6 +15,8 @@ mod laws;
 mod parameters;
 mod protocol;
 mod stated;
+#[cfg(test)]
+mod tests;
 
 pub use checking::{Signed, check};
 pub use faults::AuthFault;
