@@ -66,8 +66,8 @@ whole_of : (limits : Limits) (after : Traffic) (to : Progress) (rest left answer
     → EndTells limits after to rest answers written fault end → Whole limits to (rest ++ left) end × (written ≡ answers ++ last_of end)
 whole_of limits after to rest left answers written fault Ended is calm tells = (
   elim tells.2 as (λ _. Whole limits to (rest ++ left) Ended) [
-    inl over ↦ inl over
-  | inr at ↦ inr (at.0, ap (λ x. x ++ left) at.1 ∙ IsLeft-at_end after left at.2 is)
+    | inl over ↦ inl over
+    | inr at ↦ inr (at.0, ap (λ x. x ++ left) at.1 ∙ IsLeft-at_end after left at.2 is)
   ],
   tells.1 ∙ sym (append-nil answers),
 )
@@ -146,8 +146,8 @@ nothing_follows : (limits : Limits) (to : Progress) (input s y : List ℕ) (q : 
     → Spelling limits s q → input ≡ s ++ y → (end : SessionEnd) → Whole limits to input end → ⊥
 nothing_follows limits to input s y q goes_on below spells is Ended whole =
     elim whole [
-      inl over ↦ both to.over over.0 goes_on
-    | inr none ↦ none_without_head limits [] empty_no_head s y q spells (sym none.1 ∙ is)
+      | inl over ↦ both to.over over.0 goes_on
+      | inr none ↦ none_without_head limits [] empty_no_head s y q spells (sym none.1 ∙ is)
     ]
 nothing_follows limits to input s y q goes_on below spells is LimitReached whole = omega (arith, below, whole)
 nothing_follows limits to input s y q goes_on below spells is CutShort whole = faults_are_first.2 limits input wire.CutShort whole.1 s y q spells is
@@ -231,12 +231,12 @@ module _ (limits : Limits) (keys : List Pair) (scheme : Scheme) (n m : ℕ) (c d
         (sym is ∙ append_assoc e.spelled (read_of es) x) end' whole')
     same_run (e ∷ es) (f ∷ fs) p one other is same =
         let begin = one_spelling limits e.spelled f.spelled (read_of es ++ x) (read_of fs ++ x') e.request f.request one.2.spelling other.2.spelling
-            (sym (append_assoc e.spelled (read_of es) x) ∙ is ∙ append_assoc f.spelled (read_of fs) x') in
+        (sym (append_assoc e.spelled (read_of es) x) ∙ is ∙ append_assoc f.spelled (read_of fs) x') in
         let answer = one_answer e.request e.answer f.answer (told_of es) (told_of fs) e.told f.told one.2.answer
-            (subst (λ (q : RequestParts). IsAnswer (service limits keys scheme m d) q f.told f.answer) (sym begin.1) other.2.answer) same in
+        (subst (λ (q : RequestParts). IsAnswer (service limits keys scheme m d) q f.told f.answer) (sym begin.1) other.2.answer) same in
         let ends : e.ends ≡ f.ends = one.2.ends ∙ ap (λ (q : RequestParts). ends_with limits p.count q) begin.1 ∙ sym other.2.ends in
         let more = same_run es fs record { count = p.count + 1; over = e.ends } one.3
-            (subst (λ (b : Bool). Runs (service limits keys scheme m d) record { count = p.count + 1; over = b } fs s') (sym ends) other.3) begin.2 answer.1 in
+        (subst (λ (b : Bool). Runs (service limits keys scheme m d) record { count = p.count + 1; over = b } fs s') (sym ends) other.3) begin.2 answer.1 in
         ((λ i. response_text (answer.0 i) (ends i) ++ more.0 i), more.1, more.2)
 
 -- below the limit unless it is over
@@ -250,10 +250,10 @@ cuts limits keys scheme n m c d after after' left left' r w r' w' told told' fau
     let x = whole_of limits after one.to one.rest left (written_of one.exchanges) w fault end is calm one.end_is in
     let y = whole_of limits after' other.to other.rest left' (written_of other.exchanges) w' fault' end' is' calm' other.end_is in
     let run = same_run limits keys scheme n m c d one.to other.to (one.rest ++ left) (other.rest ++ left') end end' x.0 y.0 one.exchanges other.exchanges
-        record { count = 0; over = false } one.runs other.runs
-        (sym (append_assoc (read_of one.exchanges) one.rest left) ∙ ap (λ z. z ++ left) (sym one.bytes) ∙ same ∙ ap (λ z. z ++ left') other.bytes ∙ append_assoc (read_of other.exchanges) other.rest left')
-        (ap replies_of (sym one.told_is) ∙ replies ∙ ap replies_of other.told_is) in
+    record { count = 0; over = false } one.runs other.runs
+    (sym (append_assoc (read_of one.exchanges) one.rest left) ∙ ap (λ z. z ++ left) (sym one.bytes) ∙ same ∙ ap (λ z. z ++ left') other.bytes ∙ append_assoc (read_of other.exchanges) other.rest left')
+    (ap replies_of (sym one.told_is) ∙ replies ∙ ap replies_of other.told_is) in
     let below = stays_below (service limits keys scheme n c) one.exchanges record { count = 0; over = false } one.to (λ _. sound.requests.0) one.runs in
     let ends : end ≡ end' = whole_unique limits one.to (one.rest ++ left) below (omega (arith, sound.head.0)) end end' x.0
-        (subst (λ (z : List ℕ). Whole limits one.to z end') (sym run.2) (subst (λ (q : Progress). Whole limits q (other.rest ++ left') end') (sym run.1) y.0)) in
+    (subst (λ (z : List ℕ). Whole limits one.to z end') (sym run.2) (subst (λ (q : Progress). Whole limits q (other.rest ++ left') end') (sym run.1) y.0)) in
     (x.1 ∙ (λ i. run.0 i ++ last_of (ends i)) ∙ sym y.1, ends)

@@ -22,10 +22,10 @@ use Rattle.lti_server.proofs.TalkLemmas.{Talks-none}
 pub fault_after : (limits : Limits) (rest : List ℕ) (P Q : Type 0) (fault : WireFault) → (P → Q) → WireFaultOf limits rest P fault → WireFaultOf limits rest Q fault
 fault_after limits rest P Q fault more is =
     elim is [
-      inl long ↦ inl long
-    | inr other ↦ elim other [
-        inl cut ↦ inr (inl (cut.0, (cut.1.0, cut.1.1, cut.1.2, more cut.1.3)))
-      | inr behind ↦ inr (inr (behind.0, behind.1, behind.2, elim behind.3 [ inl head ↦ inl head | inr body ↦ inr (body.0, (body.1.0, body.1.1, body.1.2, more body.1.3)) ]))
+      | inl long ↦ inl long
+      | inr other ↦ elim other [
+        | inl cut ↦ inr (inl (cut.0, (cut.1.0, cut.1.1, cut.1.2, more cut.1.3)))
+        | inr behind ↦ inr (inr (behind.0, behind.1, behind.2, elim behind.3 [ inl head ↦ inl head | inr body ↦ inr (body.0, (body.1.0, body.1.1, body.1.2, more body.1.3)) ]))
       ]
     ]
 
@@ -37,23 +37,23 @@ module _ (limits : Limits) (after : Traffic) (to : Progress) (rest written : Lis
   pub no_memory_end : to.over ≡ false → Refuses written met wire.NoMemory end → Ends end
   no_memory_end goes_on refuses =
       elim refuses [
-        inl none ↦ absurd (let e = none.0 in cc)
-      | inr some ↦
-          let same : no_memory_answer ≡ some.0 = let e = some.1 in cc in
-          elim some.2 [
-            inl all ↦ subst Ends (sym all.2) (goes_on, inl (all.0, all.1 ∙ ap last_answer (sym same)))
-          | inr cut ↦ subst Ends (sym cut.2) (goes_on, inr (cut.0, written, subst (λ (a : ResponseParts). IsProperPrefix written (last_answer a)) (sym same) cut.1, refl))
-          ]
+        | inl none ↦ absurd (let e = none.0 in cc)
+        | inr some ↦
+            let same : no_memory_answer ≡ some.0 = let e = some.1 in cc in
+            elim some.2 [
+              | inl all ↦ subst Ends (sym all.2) (goes_on, inl (all.0, all.1 ∙ ap last_answer (sym same)))
+              | inr cut ↦ subst Ends (sym cut.2) (goes_on, inr (cut.0, written, subst (λ (a : ResponseParts). IsProperPrefix written (last_answer a)) (sym same) cut.1, refl))
+            ]
       ]
 
   refusal_end : (fault : WireFault) → refused_end fault true ≡ Refused fault → refused_end fault false ≡ WriteFault → (wire_answer fault ≡ None → ⊥) → to.over ≡ false
       → WireFaultOf limits rest (IsAtEnd after) fault → Refuses written met fault end → Ends end
   refusal_end fault good bad some_answer goes_on is refuses =
       elim refuses [
-        inl none ↦ absurd (some_answer none.0)
-      | inr some ↦ elim some.2 [
-          inl all ↦ subst Ends (sym (all.2 ∙ good)) (all.0, goes_on, is, some.0, some.1, all.1)
-        | inr cut ↦ subst Ends (sym (cut.2 ∙ bad)) (cut.0, inr (fault, goes_on, is, some.0, some.1, cut.1))
+        | inl none ↦ absurd (some_answer none.0)
+        | inr some ↦ elim some.2 [
+          | inl all ↦ subst Ends (sym (all.2 ∙ good)) (all.0, goes_on, is, some.0, some.1, all.1)
+          | inr cut ↦ subst Ends (sym (cut.2 ∙ bad)) (cut.0, inr (fault, goes_on, is, some.0, some.1, cut.1))
         ]
       ]
 
@@ -64,8 +64,8 @@ module _ (limits : Limits) (after : Traffic) (to : Progress) (rest written : Lis
   fault_end before wire.NoMemory other goes_on is moves refuses = no_memory_end goes_on refuses
   fault_end before wire.CutShort other goes_on is moves refuses =
       elim refuses [
-        inl none ↦ subst Ends (sym none.3) (none.1, none.2, goes_on, fault_after limits rest (IsAtEnd before) (IsAtEnd after) wire.CutShort (IsAtEnd-gives moves) is)
-      | inr some ↦ absurd (let e = some.1 in cc)
+        | inl none ↦ subst Ends (sym none.3) (none.1, none.2, goes_on, fault_after limits rest (IsAtEnd before) (IsAtEnd after) wire.CutShort (IsAtEnd-gives moves) is)
+        | inr some ↦ absurd (let e = some.1 in cc)
       ]
   fault_end before fault other goes_on is moves refuses =
       refusal_end fault refl refl (λ none. (cc)) goes_on (fault_after limits rest (IsAtEnd before) (IsAtEnd after) fault (IsAtEnd-gives moves) is) refuses
@@ -98,7 +98,7 @@ pub after_read : (t : Service) (a m b : Traffic) (old new : SessionState) (read 
     → Moves m b [] written met → Refuses written met fault end → Spoken t a b old new [] (ended end)
 after_read t a m b old new read written wire.ReadFault met end goes_on over moves is gives refuses =
     elim refuses [
-      inl none ↦ record {
+      | inl none ↦ record {
         read = read;
         written = [];
         fault = read_fault;
@@ -106,7 +106,7 @@ after_read t a m b old new read written wire.ReadFault met end goes_on over move
         talks = Talks-none t b old new read [] read_fault (ended end)
             (subst (λ (e : SessionEnd). EndTells t.limits b record { count = old.count; over = old.over } (old.kept ++ read) [] [] read_fault e) (sym none.3) (refl, refl, goes_on, is), over);
       }
-    | inr some ↦ absurd (let e = some.1 in cc)
+      | inr some ↦ absurd (let e = some.1 in cc)
     ]
 after_read t a m b old new read written fault met end goes_on over moves is gives refuses = record {
   read = read;

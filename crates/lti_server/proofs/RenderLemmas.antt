@@ -21,5 +21,5 @@ pub owed_text : (pending : Option Bool) (ends : Bool) (reply : Reply) (status : 
     → answer_bytes pending reply ≡ response_text record { status = status; media = Plain; body = body } ends
 owed_text pending ends reply status body owes is_status is_body =
     let same : record { status = status; media = Plain; body = body } ≡ render reply
-        = (λ i. record { status = is_status i; media = Plain; body = is_body i }) ∙ plain_render reply in
+    = (λ i. record { status = is_status i; media = Plain; body = is_body i }) ∙ plain_render reply in
     ap (λ p. answer_bytes p reply) owes ∙ ap (λ (a : ResponseParts). response_text a ends) (sym same)

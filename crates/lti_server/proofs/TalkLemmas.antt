@@ -54,19 +54,19 @@ module _ (limits : Limits) (after : Traffic) (to : Progress) (rest front answers
   end_behind NoMemory e = (
     e.0,
     elim e.1 as (λ _. ((fault ≡ no_fault) × (front ++ written ≡ (front ++ answers) ++ last_answer no_memory_answer))
-    ⊎ ((fault ≡ write_fault) × (part : List ℕ) × IsProperPrefix part (last_answer no_memory_answer) × (front ++ written ≡ (front ++ answers) ++ part))) [
-      inl all ↦ inl (all.0, ap (λ x. front ++ x) all.1 ∙ sym (append_assoc front answers (last_answer no_memory_answer)))
-    | inr some ↦ inr (some.0, some.1, some.2, ap (λ x. front ++ x) some.3 ∙ sym (append_assoc front answers some.1))
-    ],
+        ⊎ ((fault ≡ write_fault) × (part : List ℕ) × IsProperPrefix part (last_answer no_memory_answer) × (front ++ written ≡ (front ++ answers) ++ part))) [
+          | inl all ↦ inl (all.0, ap (λ x. front ++ x) all.1 ∙ sym (append_assoc front answers (last_answer no_memory_answer)))
+          | inr some ↦ inr (some.0, some.1, some.2, ap (λ x. front ++ x) some.3 ∙ sym (append_assoc front answers some.1))
+        ],
   )
   end_behind WriteFault e = (
     e.0,
     elim e.1 as (λ _. IsProperPrefix (front ++ written) (front ++ answers)
-    ⊎ ((refusal : WireFault) × (to.over ≡ false) × WireFaultOf limits rest (IsAtEnd after) refusal
-    × (answer : ResponseParts) × (wire_answer refusal ≡ Some answer) × IsProperPrefix (front ++ written) ((front ++ answers) ++ last_answer answer))) [
-      inl short ↦ inl (prefix_behind front written answers short)
-    | inr f ↦ inr (f.0, f.1, f.2, f.3, f.4, subst (λ (x : List ℕ). IsProperPrefix (front ++ written) x) (sym (append_assoc front answers (last_answer f.3))) (prefix_behind front written (answers ++ last_answer f.3) f.5))
-    ],
+        ⊎ ((refusal : WireFault) × (to.over ≡ false) × WireFaultOf limits rest (IsAtEnd after) refusal
+        × (answer : ResponseParts) × (wire_answer refusal ≡ Some answer) × IsProperPrefix (front ++ written) ((front ++ answers) ++ last_answer answer))) [
+          | inl short ↦ inl (prefix_behind front written answers short)
+          | inr f ↦ inr (f.0, f.1, f.2, f.3, f.4, subst (λ (x : List ℕ). IsProperPrefix (front ++ written) x) (sym (append_assoc front answers (last_answer f.3))) (prefix_behind front written (answers ++ last_answer f.3) f.5))
+        ],
   )
 
 module _ (t : Service) (after : Traffic) (to : Progress) (rest front answers written : List ℕ) (fault : Fault) (new : SessionState) where
@@ -94,7 +94,7 @@ Talks-then t b c old mid new r s v w told more none fault stage first second =
       told_is = ap (λ x. x ++ more) first.told_is ∙ ap (λ x. told_of first.exchanges ++ x) second.told_is
           ∙ sym (flat_map-append (λ (e : Exchange). told_by e.told) first.exchanges second.exchanges);
       stage_is = let behind : StageTells t c second.to second.rest new (written_of first.exchanges ++ written_of second.exchanges) (written_of first.exchanges ++ w) fault stage
-              = stage_behind t c second.to second.rest (written_of first.exchanges) (written_of second.exchanges) w fault new stage second.stage_is in
+          = stage_behind t c second.to second.rest (written_of first.exchanges) (written_of second.exchanges) w fault new stage second.stage_is in
           subst (λ (x : List ℕ). StageTells t c second.to second.rest new (written_of (first.exchanges ++ second.exchanges)) (x ++ w) fault stage) (sym first.stage_is.1)
           (subst (λ (x : List ℕ). StageTells t c second.to second.rest new x (written_of first.exchanges ++ w) fault stage)
           (sym (flat_map-append (λ (e : Exchange). response_text e.answer e.ends) first.exchanges second.exchanges)) behind);
@@ -210,7 +210,7 @@ module _ (t : Service) (b c : Traffic) (old mid new : SessionState) (r v w : Lis
       → Talks t c old new r (v ++ w) (told ++ member ∷ []) fault stage
   Talks-tell stage tells =
       let one : Talks t c before_it new [] w (member ∷ []) fault stage
-          = Talks-one t c before_it new [] w mid.kept exchange fault stage talks.stage_is.2.goes_on talks.stage_is.2.below is_exchange (append-nil (talks.stage_is.2.spelled ++ mid.kept)) tells in
+      = Talks-one t c before_it new [] w mid.kept exchange fault stage talks.stage_is.2.goes_on talks.stage_is.2.below is_exchange (append-nil (talks.stage_is.2.spelled ++ mid.kept)) tells in
       subst (λ (x : List ℕ). Talks t c old new x (v ++ w) (told ++ member ∷ []) fault stage) (append-nil r)
       (Talks-then t b c old before_it new r [] v w told (member ∷ []) none fault stage until_it one)
 

@@ -92,7 +92,14 @@ impl<'a> Checker<'a> {
         let url = &self.check.url;
         let request = post(alloc, url, form)?;
         // The sum of a form isn't looked at.
-        let checked = check(alloc, &request, &[0; 20], &self.keys, url.scheme, &self.limits);
+        let checked = check(
+            alloc,
+            &request,
+            &[0; 20],
+            &self.keys,
+            url.scheme,
+            &self.limits,
+        );
         match checked {
             Ok(signed) => Ok(Checked::Signed(Call {
                 caller: 0,

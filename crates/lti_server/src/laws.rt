@@ -5,5 +5,4 @@ ghost use Rattle.lti_server.specs.Laws.{CutsDoNotMatter};
 /// same bytes and end alike.
 pub fn cuts_do_not_matter()
     ensures { CutsDoNotMatter }
-{
-}
+{}

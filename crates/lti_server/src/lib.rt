@@ -8,6 +8,8 @@
 //!   written; `stop`: why a command ended before its work was done.
 #![tactic(auto)]
 
+#[cfg(test)]
+mod answer_tests;
 mod answered;
 mod answering;
 mod asking;

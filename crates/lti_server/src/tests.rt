@@ -1,7 +1,8 @@
 //! `run` with `check`, over links in memory. The signatures were made with Python's hmac.
 use super::*;
-use lti_outside::{Bytes, Limits, MemoryLink, MemorySink, MemorySource};
+use lti_outside::{Bytes, FixedClock, Limits, ListRandom, MemoryLink, MemorySink, MemorySource};
 use std::alloc::Global;
+use std::process::Abort;
 use std::test::Fail;
 
 const URL: &str = "https://tool.example/lti/launch";
@@ -53,6 +54,26 @@ fn words(alloc: Global, all: &[&str]) -> Result<Vec<String>, Fail> {
     Ok(words)
 }
 
+// The status of a run that needs neither settings nor a clock.
+fn run_words(
+    rt: &impl Abort,
+    alloc: Global,
+    asked: &[String],
+    ends: &mut MemoryLink,
+    limits: &Limits,
+) -> u8 {
+    assert!(rt; limits.sound());
+    run(
+        alloc,
+        asked,
+        &mut MemorySource::new(Vec::new(alloc), Vec::new(alloc)),
+        ends,
+        &FixedClock::new(0),
+        &mut ListRandom::new(Vec::new(alloc)),
+        limits,
+    )
+}
+
 fn check_words(alloc: Global, url: &str) -> Result<Vec<String>, Fail> {
     words(alloc, &["check", url, "12345", "secret", "1400000000"])
 }
@@ -66,7 +87,7 @@ fn verdicts_in_any_pieces(rt: HostRuntime) -> Result<(), Fail> {
     let want = "bad form\naccepted\nused\nbad form\nbad signature\n";
     for size in [1, 2, 7, 150, 100_000] {
         let mut ends = link(alloc, text.as_bytes(), size, &[], &[])?;
-        let status = run(alloc, &asked, &mut ends, &Limits::usual());
+        let status = run_words(&rt, alloc, &asked, &mut ends, &Limits::usual());
         assert_eq!(rt; status, 0, "at {size}");
         assert_eq!(rt; ends.given(), want.as_bytes(), "at {size}");
     }
@@ -126,7 +147,10 @@ fn faults_of_a_form(rt: HostRuntime) -> Result<(), Fail> {
     ];
     for (line, want) in &cases {
         let mut ends = link(alloc, line.as_bytes(), 64, &[], &[])?;
-        assert_eq!(rt; run(alloc, &asked, &mut ends, &Limits::usual()), 0);
+        assert_eq!(rt;
+            run_words(&rt, alloc, &asked, &mut ends, &Limits::usual()),
+            0
+        );
         assert_eq!(rt; ends.given(), want.as_bytes(), "at {line}");
     }
     Ok(())
@@ -139,7 +163,10 @@ fn parameters_of_the_query_are_signed(rt: HostRuntime) -> Result<(), Fail> {
     let line =
         "a=1&oauth_consumer_key=12345&oauth_signature_method=HMAC-SHA1&oauth_timestamp=1400000000&oauth_nonce=n1&oauth_signature=4BPPMH2g3pF4H0%2BPh01xVulC1zE%3D";
     let mut ends = link(alloc, line.as_bytes(), 64, &[], &[])?;
-    assert_eq!(rt; run(alloc, &asked, &mut ends, &Limits::usual()), 0);
+    assert_eq!(rt;
+        run_words(&rt, alloc, &asked, &mut ends, &Limits::usual()),
+        0
+    );
     assert_eq!(rt; ends.given(), b"accepted\n".as_slice());
     Ok(())
 }
@@ -166,7 +193,7 @@ fn how_a_run_ends(rt: HostRuntime) -> Result<(), Fail> {
     ];
     for (text, reads, writes, want, given) in cases {
         let mut ends = link(alloc, text, 3, reads, writes)?;
-        let status = run(alloc, &asked, &mut ends, &small);
+        let status = run_words(&rt, alloc, &asked, &mut ends, &small);
         assert_eq!(rt; status, want, "at {text:?}");
         assert_eq!(rt; ends.given(), given, "at {text:?}");
     }
@@ -184,7 +211,7 @@ fn a_full_window(rt: HostRuntime) -> Result<(), Fail> {
     let three = third(alloc)?;
     let text = format!(in alloc; "{one}\n{two}\n{three}\n{one}\n")?;
     let mut ends = link(alloc, text.as_bytes(), 4_096, &[], &[])?;
-    assert_eq!(rt; run(alloc, &asked, &mut ends, &narrow), 0);
+    assert_eq!(rt; run_words(&rt, alloc, &asked, &mut ends, &narrow), 0);
     assert_eq!(rt;
         ends.given(),
         b"accepted\naccepted\nwindow full\nused\n".as_slice()
@@ -195,9 +222,10 @@ fn a_full_window(rt: HostRuntime) -> Result<(), Fail> {
 #[test]
 fn other_words_are_usage(rt: HostRuntime) -> Result<(), Fail> {
     let alloc = rt.alloc();
-    let cases: [&[&str]; 11] = [
+    let cases: [&[&str]; 12] = [
         &[],
         &["check"],
+        &["answer", "now"],
         &["answer", "https://tool.example/", "k", "s", "1"],
         &["check", "ftp://tool.example/", "k", "s", "1"],
         &["check", "https://tool.example:080/", "k", "s", "1"],
@@ -218,7 +246,7 @@ fn other_words_are_usage(rt: HostRuntime) -> Result<(), Fail> {
         let asked = words(alloc, case)?;
         let mut ends = link(alloc, b"a=%FF\n", 3, &[], &[])?;
         assert_eq!(rt;
-            run(alloc, &asked, &mut ends, &Limits::usual()),
+            run_words(&rt, alloc, &asked, &mut ends, &Limits::usual()),
             2,
             "at {case:?}"
         );

@@ -19,21 +19,21 @@ loop-value-init c = rw c.new-pairs.ensures (pairs-start _)
 pub loop-value-preserved : goal.loop-value-preserved
 loop-value-preserved c =
     let left = ap (over c.loop-value.pairs)
-        (drop_more c.args.values.now c.loop-value.value-index c.value-item.result c.loop-value-test.true
-        ∙ ap (λ (v : Value). v ∷ drop (c.loop-value.value-index + 1) c.args.values.now) (sym c.value-item.is)) in
+    (drop_more c.args.values.now c.loop-value.value-index c.value-item.result c.loop-value-test.true
+    ∙ ap (λ (v : Value). v ∷ drop (c.loop-value.value-index + 1) c.args.values.now) (sym c.value-item.is)) in
     c.loop-value.invariant ∙ left
     ∙ pairs-more c.loop-value.pairs (view c.value-item.result) (map view (drop (c.loop-value.value-index + 1) c.args.values.now)) c.in-Some.pair
-        (sym c.in_ok-pair.ensures ∙ c.in-Some.is)
+    (sym c.in_ok-pair.ensures ∙ c.in-Some.is)
     ∙ ap (λ (made : List Pair). over made (drop (c.loop-value.value-index + 1) c.args.values.now)) (sym c.in_ok-push.ensures.ok)
 
 pub returns-in_default-clause-bad : goal.returns-in_default-clause-bad
 returns-in_default-clause-bad c = λ _.
     c.loop-value.invariant
     ∙ ap (over c.loop-value.pairs)
-        (drop_more c.args.values.now c.loop-value.value-index c.value-item.result c.loop-value-test.true
-        ∙ ap (λ (v : Value). v ∷ drop (c.loop-value.value-index + 1) c.args.values.now) (sym c.value-item.is))
+    (drop_more c.args.values.now c.loop-value.value-index c.value-item.result c.loop-value-test.true
+    ∙ ap (λ (v : Value). v ∷ drop (c.loop-value.value-index + 1) c.args.values.now) (sym c.value-item.is))
     ∙ pairs-none c.loop-value.pairs (view c.value-item.result) (map view (drop (c.loop-value.value-index + 1) c.args.values.now))
-        (sym c.in_ok-pair.ensures ∙ c.in_default.is)
+    (sym c.in_ok-pair.ensures ∙ c.in_default.is)
 
 pub returns-clause-ok : goal.returns-clause-ok
 returns-clause-ok c =

@@ -5,9 +5,9 @@ use Rattle.lti_server.proofs.settings_source.take_all.Goals as goal
 
 pub returns-then-len-count-gt-MOST : goal.returns-then-len-count-gt-MOST
 returns-then-len-count-gt-MOST g c = (
-    c.turns.held.items ++ take c.in_ok-count.count c.take.new.buf,
-    Moves-takes c.turns.invariant.taken c.in_ok-count.ensures.taken,
-    omega (arith, c.if-len-count-gt-MOST.true, c.len.ensures, length-append c.turns.held.items (take c.in_ok-count.count c.take.new.buf), length-take-le c.in_ok-count.count c.take.new.buf c.in_ok-count.ensures.bound),
+  c.turns.held.items ++ take c.in_ok-count.count c.take.new.buf,
+  Moves-takes c.turns.invariant.taken c.in_ok-count.ensures.taken,
+  omega (arith, c.if-len-count-gt-MOST.true, c.len.ensures, length-append c.turns.held.items (take c.in_ok-count.count c.take.new.buf), length-take-le c.in_ok-count.count c.take.new.buf c.in_ok-count.ensures.bound),
 )
 
 pub returns-in_err-extend_from_slice : goal.returns-in_err-extend_from_slice

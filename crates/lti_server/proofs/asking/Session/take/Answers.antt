@@ -61,8 +61,7 @@ returns-in-Ok-reserve_answer-clause-talk g c =
       no_fault,
       Moves-same _,
       λ spelled spells.
-          Talks-none _ _ _ _ _ _ _ _
-          (
+          Talks-none _ _ _ _ _ _ _ _ (
             refl,
             refl,
             record {
