@@ -8,3 +8,4 @@ pub mod UniqueLemmas
 pub mod FirstLemmas
 pub mod FaultLemmas
 pub mod CloseLemmas
+pub mod AnswerLemmas

@@ -9,3 +9,5 @@ pub mod Front
 pub mod Spelling
 pub mod Taking
 pub mod Response
+pub mod Answer
+pub mod AnswerFront

@@ -202,7 +202,8 @@ fn split_target(target: &[u8]) -> (&[u8], &[u8])
     }
 }
 
-fn first_or_empty<'b>(head: &'b [u8], headers: &[HeaderSpan], name: &[u8]) -> &'b [u8]
+/// The first value of a name, or nothing.
+pub(crate) fn first_or_empty<'b>(head: &'b [u8], headers: &[HeaderSpan], name: &[u8]) -> &'b [u8]
     requires { All (IsHeaderWithin (length head.now)) headers.now }
     ensures { result.now ≡ spec.first_in (values_of name.now (map (header_bytes head.now) headers.now)) }
 {

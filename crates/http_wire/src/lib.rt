@@ -7,6 +7,7 @@
 //! - `intake`: its buffer; `taking`: heads and bodies; `head`: the head of a request; `headers`: its headers.
 #![tactic(auto)]
 
+mod answer_head;
 mod draft;
 mod fault;
 mod head;
@@ -16,6 +17,8 @@ mod laws;
 mod message;
 mod response;
 mod taking;
+#[cfg(test)]
+mod tests;
 mod wire;
 
 pub use fault::WireFault;
