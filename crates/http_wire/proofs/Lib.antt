@@ -9,3 +9,5 @@ pub mod FirstLemmas
 pub mod FaultLemmas
 pub mod CloseLemmas
 pub mod AnswerLemmas
+pub mod GivenLemmas
+pub mod WrittenLemmas

@@ -9,5 +9,7 @@ pub mod Front
 pub mod Spelling
 pub mod Taking
 pub mod Response
+pub mod Written
+pub mod Pieces
 pub mod Answer
 pub mod AnswerFront

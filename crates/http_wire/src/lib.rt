@@ -10,6 +10,7 @@
 mod answer_head;
 mod draft;
 mod fault;
+mod gather;
 mod head;
 mod headers;
 mod intake;
@@ -20,9 +21,11 @@ mod taking;
 #[cfg(test)]
 mod tests;
 mod wire;
+mod written;
 
 pub use fault::WireFault;
 pub use laws::{faults_are_first, no_proper_front, one_spelling};
 pub use message::{Answered, Media, Request, Response};
 pub use response::write_response;
 pub use wire::Wire;
+pub use written::write_request;
