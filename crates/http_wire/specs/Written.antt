@@ -75,7 +75,7 @@ pub record IsSoundRequest (parts : RequestParts) : Type 0 where
   pub method : is_token parts.method ≡ true
   pub path : is_path parts.path ≡ true
   pub query : list_all is_target_byte parts.query ≡ true
-  pub host : IsHostOf (host_text parts.host_name parts.host_port) parts.host_name parts.host_port
+  pub host : ∥ ((text : List ℕ) × IsHostOf text parts.host_name parts.host_port) ∥₁
   pub media : is_media parts.media ≡ true
   pub encoded : parts.encoded ≡ false
   pub authorization : is_value parts.authorization ≡ true

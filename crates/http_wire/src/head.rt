@@ -107,13 +107,15 @@ fn is_target_byte(b: u8) -> bool
     (b'!'..=b'~').contains(&b) && b != b'#'
 }
 
-fn are_target_bytes(bytes: &[u8]) -> bool
+/// Whether each byte is one of a target.
+pub(crate) fn are_target_bytes(bytes: &[u8]) -> bool
     ensures { result ≡ list_all grammar.is_target_byte bytes.now }
 {
     bytes.iter().all(|b| is_target_byte(*b))
 }
 
-fn is_target(target: &[u8]) -> bool
+/// Whether a target is in origin form, without a fragment.
+pub(crate) fn is_target(target: &[u8]) -> bool
     ensures { result ≡ grammar.is_target target.now }
 {
     match target {

@@ -59,13 +59,14 @@ pub(crate) fn first_named<'b>(
     None
 }
 
-fn is_text_byte(b: u8) -> bool
+pub(crate) fn is_text_byte(b: u8) -> bool
     ensures { result ≡ spec.is_text_byte b }
 {
     b == b'\t' || (b' '..=b'~').contains(&b)
 }
 
-fn are_text_bytes(value: &[u8]) -> bool
+/// Whether each byte is one of a value.
+pub(crate) fn are_text_bytes(value: &[u8]) -> bool
     ensures { result ≡ list_all spec.is_text_byte value.now }
 {
     value.iter().all(|b| is_text_byte(*b))
@@ -219,7 +220,8 @@ pub(crate) fn trim_end(text: &[u8]) -> &[u8]
     rest
 }
 
-fn trim(text: &[u8]) -> &[u8]
+/// The text without the spaces and tabs at its ends.
+pub(crate) fn trim(text: &[u8]) -> &[u8]
     ensures { result.now ≡ trim_ows text.now }
 {
     trim_end(trim_front(text))

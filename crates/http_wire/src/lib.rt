@@ -17,6 +17,7 @@ mod intake;
 mod laws;
 mod message;
 mod response;
+mod sound;
 mod taking;
 #[cfg(test)]
 mod tests;
