@@ -11,3 +11,7 @@ pub mod CloseLemmas
 pub mod AnswerLemmas
 pub mod GivenLemmas
 pub mod WrittenLemmas
+pub mod BackLines
+pub mod BackHost
+pub mod BackBytes
+pub mod BackHead

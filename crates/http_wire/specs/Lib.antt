@@ -11,5 +11,6 @@ pub mod Taking
 pub mod Response
 pub mod Written
 pub mod Pieces
+pub mod Back
 pub mod Answer
 pub mod AnswerFront

@@ -3,10 +3,10 @@ use Rattle.std.specs.Prelude.{◌≡◌, ◌<◌, ◌^◌, ◌==◌, ◌&&◌, n
 use Rattle.std.specs.List.{list_all, list_any}
 use Rattle.std.specs.Char.{is_ascii_uppercase}
 use Rattle.std.specs.Str.{bytes_eq}
-use Rattle.httparse.specs.Grammar.{is_token, trim_ows}
+use Rattle.httparse.specs.Grammar.{is_token, skip_ows}
 use Rattle.oauth_text.specs.Host.{IsHostOf}
 use Rattle.http_wire.specs.Message.{RequestParts}
-use Rattle.http_wire.specs.Headers.{is_text_byte}
+use Rattle.http_wire.specs.Headers.{is_text_byte, trim_end}
 use Rattle.http_wire.specs.Head.{is_target_byte, is_target}
 use Rattle.http_wire.specs.Response.{length_line}
 
@@ -56,7 +56,7 @@ is_path path = is_target path && not (list_any (λ b. b == 63) path)
 
 -- no space or tab stands at an end
 abbrev pub is_trimmed : List ℕ → Bool
-is_trimmed text = bytes_eq (trim_ows text) text
+is_trimmed text = bytes_eq (skip_ows text) text && bytes_eq (trim_end text) text
 
 -- a value as it is read
 abbrev pub is_value : List ℕ → Bool

@@ -194,7 +194,8 @@ fn is_blank(b: u8) -> bool
     b == b' ' || b == b'\t'
 }
 
-fn trim_front(text: &[u8]) -> &[u8]
+/// The text without the spaces and tabs in front.
+pub(crate) fn trim_front(text: &[u8]) -> &[u8]
     ensures { result.now ≡ skip_ows text.now }
 {
     let mut rest = text;
@@ -220,8 +221,7 @@ pub(crate) fn trim_end(text: &[u8]) -> &[u8]
     rest
 }
 
-/// The text without the spaces and tabs at its ends.
-pub(crate) fn trim(text: &[u8]) -> &[u8]
+fn trim(text: &[u8]) -> &[u8]
     ensures { result.now ≡ trim_ows text.now }
 {
     trim_end(trim_front(text))

@@ -1,4 +1,5 @@
 // What holds of all messages.
+ghost use Rattle.http_wire.specs.Back.{WrittenIsRead};
 ghost use Rattle.http_wire.specs.Spelling.{OneSpelling, NoProperFront, FaultsAreFirst};
 
 /// Bytes begin with one spelling of a request at most.
@@ -14,4 +15,9 @@ pub fn no_proper_front()
 /// A fault is the first one, whatever follows the bytes that show it.
 pub fn faults_are_first()
     ensures { FaultsAreFirst }
+{}
+
+/// A written request is read back, where the limits hold its head, its header lines and its body.
+pub fn written_is_read()
+    ensures { WrittenIsRead }
 {}

@@ -8,7 +8,7 @@ ghost use Rattle.http_wire.specs.Written as spec;
 ghost use Rattle.http_wire.specs.Written.{IsSoundRequest};
 
 use crate::head::{are_target_bytes, is_target};
-use crate::headers::{are_text_bytes, is_text_byte, trim};
+use crate::headers::{are_text_bytes, is_text_byte, trim_end, trim_front};
 use crate::message::Request;
 
 fn is_token_byte(b: u8) -> bool
@@ -38,7 +38,7 @@ fn is_path(path: &[u8]) -> bool
 fn is_trimmed(text: &[u8]) -> bool
     ensures { result ≡ spec.is_trimmed text.now }
 {
-    trim(text) == text
+    trim_front(text) == text && trim_end(text) == text
 }
 
 fn is_value(value: &[u8]) -> bool
