@@ -26,7 +26,7 @@ use Rattle.http_wire.proofs.BackHost.{and_join, is_byte, whole}
 abbrev pub is_visible : ℕ → Bool
 is_visible b = leb 33 b && leb b 126
 
-all_weaker : (f g : ℕ → Bool) → ((b : ℕ) → f b ≡ true → g b ≡ true) → (xs : List ℕ) → list_all f xs ≡ true → list_all g xs ≡ true
+pub all_weaker : (f g : ℕ → Bool) → ((b : ℕ) → f b ≡ true → g b ≡ true) → (xs : List ℕ) → list_all f xs ≡ true → list_all g xs ≡ true
 all_weaker f g weaker [] all = refl
 all_weaker f g weaker (b ∷ xs) all =
     let both = and_split (f b) (list_all f xs) all in

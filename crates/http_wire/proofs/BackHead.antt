@@ -39,26 +39,26 @@ use Rattle.http_wire.proofs.BackBytes.{is_visible, all_join, no_feed, token_no_f
 
 -- ---- the head that was written
 
-abbrev header_field : List ℕ → List ℕ → Field
+abbrev pub header_field : List ℕ → List ℕ → Field
 header_field name value = record { name = name; raw = 32 ∷ value; end = grammar.crlf }
 
-abbrev optional_field : List ℕ → List ℕ → List Field
+abbrev pub optional_field : List ℕ → List ℕ → List Field
 optional_field name [] = []
 optional_field name (b ∷ value) = header_field name (b ∷ value) ∷ []
 
-abbrev minor_of : Bool → ℕ
+abbrev pub minor_of : Bool → ℕ
 minor_of close = cond close 0 1
 
-abbrev target_of : RequestParts → List ℕ
+abbrev pub target_of : RequestParts → List ℕ
 target_of parts = parts.path ++ query_text parts.query
 
-abbrev fields_of : RequestParts → List Field
+abbrev pub fields_of : RequestParts → List Field
 fields_of parts =
     header_field (codes "Host") (host_text parts.host_name parts.host_port)
     ∷ (optional_field (codes "Content-Type") parts.media ++ (optional_field (codes "Authorization") parts.authorization
     ++ header_field (codes "Content-Length") (decimal (length parts.body)) ∷ []))
 
-abbrev head_of : RequestParts → RequestHead
+abbrev pub head_of : RequestParts → RequestHead
 head_of parts = record {
   blank = [];
   method = parts.method;
@@ -121,20 +121,20 @@ four a b c d = simp append_assoc
 
 -- what is known of a sound request
 pub record Known (parts : RequestParts) : Type 0 where
-  method : list_all is_token_byte parts.method ≡ true
-  some : 0 < length parts.method
-  target : (is_target (target_of parts) ≡ true) × (list_all is_target_byte (target_of parts) ≡ true) × (0 < length (target_of parts))
-  path : list_any (λ b. b == 63) parts.path ≡ false
-  host : IsHostOf (host_text parts.host_name parts.host_port) parts.host_name parts.host_port
-  host_bytes : list_all is_visible (host_text parts.host_name parts.host_port) ≡ true
-  media : list_all is_media_byte parts.media ≡ true
-  media_front : skip_ows parts.media ≡ parts.media
-  media_end : trim_end parts.media ≡ parts.media
-  encoded : parts.encoded ≡ false
-  authorization : list_all is_text_byte parts.authorization ≡ true
-  authorization_front : skip_ows parts.authorization ≡ parts.authorization
-  authorization_end : trim_end parts.authorization ≡ parts.authorization
-  body : length parts.body < 10 ^ 19
+  pub method : list_all is_token_byte parts.method ≡ true
+  pub some : 0 < length parts.method
+  pub target : (is_target (target_of parts) ≡ true) × (list_all is_target_byte (target_of parts) ≡ true) × (0 < length (target_of parts))
+  pub path : list_any (λ b. b == 63) parts.path ≡ false
+  pub host : IsHostOf (host_text parts.host_name parts.host_port) parts.host_name parts.host_port
+  pub host_bytes : list_all is_visible (host_text parts.host_name parts.host_port) ≡ true
+  pub media : list_all is_media_byte parts.media ≡ true
+  pub media_front : skip_ows parts.media ≡ parts.media
+  pub media_end : trim_end parts.media ≡ parts.media
+  pub encoded : parts.encoded ≡ false
+  pub authorization : list_all is_text_byte parts.authorization ≡ true
+  pub authorization_front : skip_ows parts.authorization ≡ parts.authorization
+  pub authorization_end : trim_end parts.authorization ≡ parts.authorization
+  pub body : length parts.body < 10 ^ 19
 
 some_bytes : (n : ℕ) → nat_lt 0 n ≡ true → 0 < n
 some_bytes n test = grind (arith, nat_tests)
@@ -255,18 +255,18 @@ is_request_head parts of = record {
 
 -- ---- what it says
 
-abbrev optional_header : List ℕ → List ℕ → List (List ℕ × List ℕ)
+abbrev pub optional_header : List ℕ → List ℕ → List (List ℕ × List ℕ)
 optional_header name [] = []
 optional_header name (b ∷ value) = (name, b ∷ value) ∷ []
 
-abbrev headers_with : List ℕ → List ℕ → List ℕ → List ℕ → List (List ℕ × List ℕ)
+abbrev pub headers_with : List ℕ → List ℕ → List ℕ → List ℕ → List (List ℕ × List ℕ)
 headers_with host media authorization digits =
     (codes "Host", host) ∷ (optional_header (codes "Content-Type") media ++ (optional_header (codes "Authorization") authorization ++ (codes "Content-Length", digits) ∷ []))
 
-abbrev headers_of : RequestParts → List (List ℕ × List ℕ)
+abbrev pub headers_of : RequestParts → List (List ℕ × List ℕ)
 headers_of parts = headers_with (host_text parts.host_name parts.host_port) parts.media parts.authorization (decimal (length parts.body))
 
-abbrev written_plain : RequestParts → Plain
+abbrev pub written_plain : RequestParts → Plain
 written_plain parts = record { method = parts.method; target = target_of parts; minor = minor_of parts.close; headers = headers_of parts }
 
 -- a value with a space before it is read without the space
@@ -292,7 +292,7 @@ headers_read parts of =
     ∙ (λ i. (codes "Host", host_text parts.host_name parts.host_port) ∷ (media i ++ map-append name_and_value (optional_field (codes "Authorization") parts.authorization) last i))
     ∙ (λ i. (codes "Host", host_text parts.host_name parts.host_port) ∷ (optional_header (codes "Content-Type") parts.media ++ (authorization i ++ (codes "Content-Length", digits i) ∷ [])))
 
-plain_read : (parts : RequestParts) → Known parts → written_plain parts ≡ plain_of (head_of parts)
+pub plain_read : (parts : RequestParts) → Known parts → written_plain parts ≡ plain_of (head_of parts)
 plain_read parts of = λ i. record { method = parts.method; target = target_of parts; minor = minor_of parts.close; headers = sym (headers_read parts of) i }
 
 -- ---- its headers, one after another
@@ -346,7 +346,7 @@ authorization_first host [] (b ∷ value) digits = refl
 authorization_first host (b ∷ value) [] digits = refl
 authorization_first host (a ∷ media) (b ∷ value) digits = refl
 
-not_encoded : (host media authorization digits : List ℕ) → list_any is_encoding (headers_with host media authorization digits) ≡ false
+pub not_encoded : (host media authorization digits : List ℕ) → list_any is_encoding (headers_with host media authorization digits) ≡ false
 unfolding is_same_text
 not_encoded host [] [] digits = refl
 not_encoded host [] (b ∷ value) digits = refl

@@ -37,7 +37,7 @@ or_right : (x y : Bool) → y ≡ true → (x || y) ≡ true
 or_right true y is = refl
 or_right false y is = is
 
-implied : (x y : Bool) → (not x || y) ≡ true → x ≡ true → y ≡ true
+pub implied : (x y : Bool) → (not x || y) ≡ true → x ≡ true → y ≡ true
 implied true y test is = test
 implied false y test is = absurd (cc)
 

@@ -15,3 +15,5 @@ pub mod BackLines
 pub mod BackHost
 pub mod BackBytes
 pub mod BackHead
+pub mod OnlyTexts
+pub mod OnlyLemmas

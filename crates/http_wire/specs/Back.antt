@@ -15,3 +15,7 @@ pub record Holds (limits : Limits) (parts : RequestParts) : Type 0 where
 -- the text of a request is a spelling of it, where the limits hold it
 abbrev pub WrittenIsRead : Type 0
 WrittenIsRead = (limits : Limits) (parts : RequestParts) → IsSoundRequest parts → Holds limits parts → Spelling limits (request_text parts) parts
+
+-- no other request's text is a spelling of it
+abbrev pub OnlySoundIsRead : Type 0
+OnlySoundIsRead = (limits : Limits) (parts : RequestParts) → Spelling limits (request_text parts) parts → IsSoundRequest parts

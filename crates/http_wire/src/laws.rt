@@ -1,5 +1,5 @@
 // What holds of all messages.
-ghost use Rattle.http_wire.specs.Back.{WrittenIsRead};
+ghost use Rattle.http_wire.specs.Back.{OnlySoundIsRead, WrittenIsRead};
 ghost use Rattle.http_wire.specs.Spelling.{OneSpelling, NoProperFront, FaultsAreFirst};
 
 /// Bytes begin with one spelling of a request at most.
@@ -20,4 +20,9 @@ pub fn faults_are_first()
 /// A written request is read back, where the limits hold its head, its header lines and its body.
 pub fn written_is_read()
     ensures { WrittenIsRead }
+{}
+
+/// A request whose text is read as this request is sound, whatever the limits.
+pub fn only_sound_is_read()
+    ensures { OnlySoundIsRead }
 {}

@@ -25,7 +25,9 @@ mod wire;
 mod written;
 
 pub use fault::WireFault;
-pub use laws::{faults_are_first, no_proper_front, one_spelling, written_is_read};
+pub use laws::{
+    faults_are_first, no_proper_front, one_spelling, only_sound_is_read, written_is_read,
+};
 pub use message::{Answered, Media, Request, Response};
 pub use response::write_response;
 pub use wire::Wire;

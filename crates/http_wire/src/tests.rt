@@ -1,6 +1,7 @@
 //! The refusals of the wire, alone and one beside the next, in pieces of several sizes, and the text of answers.
 use super::*;
-use lti_outside::{Bytes, Limits, MemoryLink, MemorySink, MemorySource, Tap};
+use lti_outside::{Bytes, Limits, MemoryLink, MemorySink, MemorySource, Tap, Text};
+use oauth_text::Host;
 use std::alloc::Global;
 use std::process::Abort;
 use std::test::Fail;
@@ -325,6 +326,188 @@ fn a_read_that_fails_is_no_message(rt: HostRuntime) -> Result<(), Fail> {
         let came = wire.read_request(alloc, &mut ends, &mut tap, &limits);
         assert!(rt; matches!(came, Err(WireFault::ReadFault)), "at {call}");
         assert!(rt; wire.failed());
+    }
+    Ok(())
+}
+
+// The answers of the formats, to the byte.
+#[test]
+fn writes_answers(rt: HostRuntime) -> Result<(), Fail> {
+    let alloc = rt.alloc();
+    let cases: [(u16, Media, &[u8], bool, &[u8]); 4] = [
+        (
+            200,
+            Media::Plain,
+            b"launched\n",
+            false,
+            b"HTTP/1.1 200 OK\r\nContent-Type: text/plain; charset=utf-8\r\nContent-Length: 9\r\nConnection: keep-alive\r\n\r\nlaunched\n",
+        ),
+        (
+            401,
+            Media::Plain,
+            b"unknown key\n",
+            true,
+            b"HTTP/1.1 401 Unauthorized\r\nContent-Type: text/plain; charset=utf-8\r\nContent-Length: 12\r\nWWW-Authenticate: OAuth\r\nConnection: close\r\n\r\nunknown key\n",
+        ),
+        (
+            405,
+            Media::Plain,
+            b"",
+            false,
+            b"HTTP/1.1 405 Method Not Allowed\r\nContent-Type: text/plain; charset=utf-8\r\nContent-Length: 0\r\nAllow: POST\r\nConnection: keep-alive\r\n\r\n",
+        ),
+        (
+            431,
+            Media::Xml,
+            b"<a/>",
+            true,
+            b"HTTP/1.1 431 Request Header Fields Too Large\r\nContent-Type: application/xml; charset=utf-8\r\nContent-Length: 4\r\nConnection: close\r\n\r\n<a/>",
+        ),
+    ];
+    for (status, media, body, close, want) in cases {
+        assert!(rt; status == 200 || status == 401 || status == 405 || status == 431);
+        let mut ends = link(alloc, b"", 1, &[])?;
+        let response = Response {
+            status,
+            media,
+            body: bytes(alloc, body)?,
+        };
+        assert!(rt; write_response(&mut ends, &response, close).is_ok());
+        assert_eq!(rt; ends.given(), want);
+    }
+    Ok(())
+}
+
+// A body that doesn't fit beside its head, and writes that fail.
+#[test]
+fn writes_long_answers(rt: HostRuntime) -> Result<(), Fail> {
+    let alloc = rt.alloc();
+    let mut body = Bytes::new(alloc);
+    for _ in 0..3_000 {
+        body.push(b"x")?;
+    }
+    let response = Response {
+        status: 200,
+        media: Media::Plain,
+        body,
+    };
+    let mut sink = MemorySink::new(alloc, Vec::new(alloc));
+    assert!(rt; write_response(&mut sink, &response, false).is_ok());
+    assert!(rt; sink.given().starts_with(b"HTTP/1.1 200 OK\r\n"));
+    assert_eq!(rt; sink.given().iter().filter(|b| **b == b'x').count(), 3_001);
+    let mut broken = MemorySink::new(alloc, [1].to_vec(alloc)?);
+    assert!(rt; write_response(&mut broken, &response, false).is_err());
+    assert!(rt; broken.given().ends_with(b"Connection: keep-alive\r\n\r\n"));
+    Ok(())
+}
+
+// Answers with a length, and one up to the end of input.
+#[test]
+fn reads_answers(rt: HostRuntime) -> Result<(), Fail> {
+    let alloc = rt.alloc();
+    let limits = small();
+    assert!(rt; limits.sound());
+    let cases: [(&[u8], Result<(u16, &str, &[u8]), WireFault>); 13] = [
+        (
+            b"HTTP/1.1 200 OK\r\nContent-Type: Text/Plain; charset=utf-8\r\nContent-Length: 2\r\n\r\nok",
+            Ok((200, "text/plain", b"ok")),
+        ),
+        (
+            b"HTTP/1.0 404 Not Found\r\n\r\n123456789",
+            Ok((404, "", b"123456789")),
+        ),
+        (b"HTTP/1.1 204\r\n\r\n", Ok((204, "", b""))),
+        (
+            b"HTTP/1.0 404 Not Found\r\n\r\n1234567890",
+            Err(WireFault::BodyTooLong),
+        ),
+        (b"", Err(WireFault::CutShort)),
+        (b"HTTP/1.1 200 OK\r\n", Err(WireFault::CutShort)),
+        (b"GET / HTTP/1.1\r\n\r\n", Err(WireFault::BadHead)),
+        (b"HTTP/1.1 200 OK\n\r\n\r\n", Err(WireFault::BadHead)),
+        (
+            b"HTTP/1.1 200 OK\r\na:\r\na:\r\na:\r\na:\r\na:\r\na:\r\n\r\n",
+            Err(WireFault::TooManyHeaders),
+        ),
+        (
+            b"HTTP/1.1 200 OK\r\nTransfer-Encoding: chunked\r\n\r\n",
+            Err(WireFault::Chunked),
+        ),
+        (
+            b"HTTP/1.1 200 OK\r\nContent-Length: -1\r\n\r\n",
+            Err(WireFault::BadLength),
+        ),
+        (
+            b"HTTP/1.1 200 OK\r\nContent-Length: 10\r\n\r\n",
+            Err(WireFault::BodyTooLong),
+        ),
+        (
+            b"HTTP/1.1 200 OK\r\nContent-Length: 3\r\n\r\nok",
+            Err(WireFault::CutShort),
+        ),
+    ];
+    for (text, want) in cases {
+        for size in [1, 5, 300] {
+            let mut wire = Wire::new();
+            let came = wire.read_response(alloc, &mut link(alloc, text, size, &[])?, &limits);
+            assert!(rt; wire.failed() == want.is_err(), "at {text:?}");
+            match (came, want) {
+                (Ok(answered), Ok((status, media, body))) => {
+                    assert_eq!(rt; answered.status, status);
+                    assert_eq!(rt; answered.media.get(), media);
+                    assert_eq!(rt; answered.body.get(), body);
+                }
+                (Err(fault), Err(wanted)) => assert!(rt; fault == wanted, "at {text:?}"),
+                _ => return Err("an answer where none was wanted, or none where one was".into()),
+            }
+        }
+    }
+    Ok(())
+}
+
+fn request(alloc: Global, method: &str, path: &str, media: &str) -> Result<Request, Fail> {
+    Ok(Request {
+        method: Text::new(alloc, method)?,
+        path: Text::new(alloc, path)?,
+        query: Text::new(alloc, "b=c?d")?,
+        host: Host::read(alloc, "Tool.Example:8080").map_err(|_| "host")?,
+        media: Text::new(alloc, media)?,
+        encoded: false,
+        authorization: Text::new(alloc, "OAuth a=\"b\"")?,
+        body: bytes(alloc, b"abc")?,
+        close: true,
+    })
+}
+
+// A written request to the byte, and which requests may be written.
+#[test]
+fn writes_requests(rt: HostRuntime) -> Result<(), Fail> {
+    let alloc = rt.alloc();
+    let mut ends = link(alloc, b"", 1, &[])?;
+    let written = request(alloc, "POST", "/a", "application/xml")?;
+    assert!(rt; written.sound());
+    assert!(rt; write_request(&mut ends, &written).is_ok());
+    assert_eq!(rt;
+        ends.given(),
+        b"POST /a?b=c?d HTTP/1.0\r\nHost: tool.example:8080\r\nContent-Type: application/xml\r\nAuthorization: OAuth a=\"b\"\r\nContent-Length: 3\r\n\r\nabc".as_slice()
+    );
+    for (method, path, media) in [
+        ("", "/", ""),
+        ("A B", "/", ""),
+        ("GET", "", ""),
+        ("GET", "a", ""),
+        ("GET", "/a?b", ""),
+        ("GET", "/a#b", ""),
+        ("GET", "/a b", ""),
+        ("GET", "/", "Text/xml"),
+        ("GET", "/", "text/xml;a=b"),
+        ("GET", "/", " text/xml"),
+        ("GET", "/", "text/xml\r\nx: y"),
+    ] {
+        assert!(rt;
+            !request(alloc, method, path, media)?.sound(),
+            "{method:?} {path:?} {media:?}"
+        );
     }
     Ok(())
 }
