@@ -17,3 +17,4 @@ pub mod BackBytes
 pub mod BackHead
 pub mod OnlyTexts
 pub mod OnlyLemmas
+pub mod AnswerUnique

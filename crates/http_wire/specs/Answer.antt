@@ -111,3 +111,9 @@ AnswerTells limits bytes kept ended (Ok answered) =
 AnswerTells limits bytes kept ended (Err ReadFault) = ⊤
 AnswerTells limits bytes kept ended (Err NoMemory) = ⊤
 AnswerTells limits bytes kept ended (Err fault) = AnswerFaultOf limits bytes ended fault
+
+-- bytes are an answer and a rest in one way at most, if the input ends behind them
+abbrev pub OneAnswer : Type 0
+OneAnswer =
+    (limits : Limits) (one other x y : List ℕ) (p q : AnswerParts)
+    → AnswerSpelling limits one x ⊤ p → AnswerSpelling limits other y ⊤ q → one ++ x ≡ other ++ y → (one ≡ other) × (p ≡ q) × (x ≡ y)

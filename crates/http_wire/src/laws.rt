@@ -1,4 +1,5 @@
 // What holds of all messages.
+ghost use Rattle.http_wire.specs.Answer.{OneAnswer};
 ghost use Rattle.http_wire.specs.Back.{OnlySoundIsRead, WrittenIsRead};
 ghost use Rattle.http_wire.specs.Spelling.{OneSpelling, NoProperFront, FaultsAreFirst};
 
@@ -15,6 +16,11 @@ pub fn no_proper_front()
 /// A fault is the first one, whatever follows the bytes that show it.
 pub fn faults_are_first()
     ensures { FaultsAreFirst }
+{}
+
+/// Bytes are an answer and a rest in one way at most, if the input ends behind them.
+pub fn one_answer()
+    ensures { OneAnswer }
 {}
 
 /// A written request is read back, where the limits hold its head, its header lines and its body.

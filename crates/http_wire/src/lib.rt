@@ -1,10 +1,11 @@
 //! Messages of HTTP/1.1 (RFC 9112) on a connection: requests and answers, read from a link and written to it.
 //!
-//! `Wire` takes one message after another, however the bytes are cut, or says the first fault of the bytes. What bytes
-//! spell is one relation, and `laws` says that they begin with one message at most.
+//! `Wire` takes one message after another, however the bytes are cut, or answers the first fault of the bytes. What
+//! bytes spell is one relation; `laws` says that they begin with one message at most, and that a written request is read.
 //!
-//! - `message`: requests and answers; `fault`: why there is none; `wire`: the reading end of a connection;
-//! - `intake`: its buffer; `taking`: heads and bodies; `head`: the head of a request; `headers`: its headers.
+//! - `message`, `fault`: requests, answers, and why there is none; `wire`: the reading end of a connection, over
+//!   `intake` (its buffer), `taking` (heads and bodies), `head`, `answer_head` and `headers`;
+//! - `response`, `written`: answers and requests as bytes, over `draft` and `gather`; `sound`: which may be written.
 #![tactic(auto)]
 
 mod answer_head;
