@@ -6,8 +6,9 @@ ghost use Rattle.http_wire.specs.Headers.{values_of};
 ghost use Rattle.http_wire.specs.AnswerFront.{AnswerHeadTells, AnswerPartsTell, AnswerLengthTells};
 
 use crate::WireFault;
-use crate::head::{check_lines, first_or_empty, media_of};
-use crate::headers::{first_named, has_bad_header, length_said};
+use crate::headers::{first_named, first_or_empty, has_bad_header, length_said};
+use crate::lines::check_lines;
+use crate::values::media_of;
 use httparse::Status;
 use httparse::spans::{EMPTY_HEADER_SPAN, HeaderSpan, ResponseSpans, parse_response};
 use lti_outside::{Limits, Text};

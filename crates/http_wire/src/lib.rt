@@ -4,7 +4,8 @@
 //! bytes spell is one relation; `laws` says that they begin with one message at most, and that a written request is read.
 //!
 //! - `message`, `fault`: requests, answers, and why there is none; `wire`: the reading end of a connection, over
-//!   `intake` (its buffer), `taking` (heads and bodies), `head`, `answer_head` and `headers`;
+//!   `intake` (its buffer), `taking` (heads and bodies), `head` and `answer_head`, over `lines`, `target`, `headers` and
+//!   `values`;
 //! - `response`, `written`: answers and requests as bytes, over `draft` and `gather`; `sound`: which may be written.
 #![tactic(auto)]
 
@@ -16,12 +17,15 @@ mod head;
 mod headers;
 mod intake;
 mod laws;
+mod lines;
 mod message;
 mod response;
 mod sound;
 mod taking;
+mod target;
 #[cfg(test)]
 mod tests;
+mod values;
 mod wire;
 mod written;
 

@@ -7,9 +7,9 @@ ghost use Rattle.http_wire.specs.Message.{parts_of};
 ghost use Rattle.http_wire.specs.Written as spec;
 ghost use Rattle.http_wire.specs.Written.{IsSoundRequest};
 
-use crate::head::{are_target_bytes, is_target};
-use crate::headers::{are_text_bytes, is_text_byte, trim_end, trim_front};
 use crate::message::Request;
+use crate::target::{are_target_bytes, is_target};
+use crate::values::{are_text_bytes, is_text_byte, trim_end, trim_front};
 
 fn is_token_byte(b: u8) -> bool
     ensures { result ≡ token.is_token_byte b }

@@ -3,7 +3,7 @@ use Rattle.std.specs.Char.{to_ascii_lowercase}
 use Rattle.std.specs.Cmp.{both_ways}
 use Rattle.std.proofs.lemmas.Slice.Eq.{bytes_eq-Decides}
 use Rattle.http_wire.specs.Headers.{is_same_text}
-use Rattle.http_wire.proofs.headers.is_same_text.Goals as goal
+use Rattle.http_wire.proofs.values.is_same_text.Goals as goal
 
 pub returns : goal.returns
 unfolding is_same_text

@@ -1,6 +1,6 @@
 use Rattle.std.proofs.Common.{reverse, ap, ◌∙◌}
 use Rattle.httparse.specs.Grammar.{skip_ows, trim_ows}
-use Rattle.http_wire.proofs.headers.trim.Goals as goal
+use Rattle.http_wire.proofs.values.trim.Goals as goal
 
 pub returns : goal.returns
 unfolding trim_ows

@@ -1,6 +1,6 @@
 use Rattle.std.proofs.Common.{◌≡◌, ℕ, length, take}
 use Rattle.http_wire.specs.Headers.{trim_end}
-use Rattle.http_wire.proofs.headers.trim_end.Given as goal
+use Rattle.http_wire.proofs.values.trim_end.Given as goal
 
 abbrev pub invariant-loop-rest : goal.invariant-loop-rest
 invariant-loop-rest l = record {

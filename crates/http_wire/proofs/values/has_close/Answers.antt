@@ -1,6 +1,6 @@
 use Rattle.std.proofs.Common.{sym, ◌∙◌, arith, length-take, length-drop, length, take, drop, ◌-◌, ◌+◌}
 use Rattle.http_wire.proofs.CloseLemmas.{close_behind, close_found, close_last}
-use Rattle.http_wire.proofs.headers.has_close.Goals as goal
+use Rattle.http_wire.proofs.values.has_close.Goals as goal
 
 pub returns-then-is_close : goal.returns-then-is_close
 returns-then-is_close c =

@@ -2,7 +2,7 @@ use Rattle.std.proofs.Common.{arith}
 use Rattle.std.proofs.lemmas.Int.Digits.{digits_value_more}
 use Rattle.lti_outside.proofs.DigitLemmas.{digit_worth_at, decimal_parts}
 use Rattle.http_wire.proofs.NumberLemmas.{few_digits}
-use Rattle.http_wire.proofs.headers.number.Goals as goal
+use Rattle.http_wire.proofs.values.number.Goals as goal
 
 pub overflow_mul-number : goal.overflow_mul-number
 overflow_mul-number c =
