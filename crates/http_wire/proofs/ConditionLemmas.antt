@@ -8,7 +8,8 @@ use Rattle.http_wire.specs.declared.fault.WireFault.TheVariants.{TooManyHeaders,
 use Rattle.http_wire.specs.Conditions.{Condition, first_fault}
 use Rattle.http_wire.specs.Lines.{line_ends, has_bare_line_feed, line_conditions}
 
-by_holds : (b : Bool) (f : WireFault) (o : Option WireFault) → cond b (Some f) o ≡ None → (b ≡ false) × (o ≡ None)
+-- where the first condition's fault isn't answered, it doesn't hold
+pub by_holds : (b : Bool) (f : WireFault) (o : Option WireFault) → cond b (Some f) o ≡ None → (b ≡ false) × (o ≡ None)
 by_holds true f o none = absurd (cc)
 by_holds false f o none = (refl, none)
 

@@ -4,7 +4,7 @@ use Rattle.std.specs.List.{flat_map}
 use Rattle.std.specs.Prelude.{filter}
 use Rattle.std.proofs.lemmas.List.{length-append}
 use Rattle.std.proofs.lemmas.List.Elements.{filter-append}
-use Rattle.httparse.specs.Grammar.{LineEnd, crlf, lf, print_end, Field, print_field, print_section, RequestHead, print_request, ReadsRequest}
+use Rattle.httparse.specs.Grammar.{LineEnd, crlf, lf, print_end, Field, print_field, print_section, RequestHead, print_request, ReadsRequest, ResponseHead, print_response, ReadsResponse}
 use Rattle.std.proofs.Common.{true, false, Bool, cond}
 use Rattle.std.specs.Prelude.{◌&&◌, ◌||◌, not, if◌then◌else◌}
 use Rattle.http_wire.specs.Lines.{line_feeds, line_ends, has_bare_line_feed}
@@ -66,3 +66,13 @@ unfolding line_feeds
 feeds_are_pairs [] before none = omega arith
 feeds_are_pairs (b ∷ bytes) before none =
     feed_step (b == 10) (before == 13) (has_bare_line_feed b bytes) b (line_ends b bytes) (filter (λ c. c == 10) bytes) none (feeds_are_pairs bytes b)
+
+answer_feeds : (h : ResponseHead) → length h.fields + 2 ≤ line_feeds (print_response h)
+unfolding print_response
+answer_feeds h = end_before (length h.fields) _ h.line_end (print_section h.fields h.last) (fields_feeds h.fields h.last)
+
+pub answer_room : (buf : List ℕ) (h : ResponseHead) → ReadsResponse buf h [] → line_feeds buf ≤ 66 → length h.fields ≤ 64
+answer_room buf h reads few =
+    let same = ap line_feeds (reads.1 ∙ append-nil (print_response h)) in
+    let feeds = answer_feeds h in
+    omega (arith, same, feeds, few)

@@ -38,40 +38,49 @@ good_value true true good is = refl
 good_value true false good is = absurd (cc)
 good_value false text good is = absurd (cc)
 
--- the first value of a header that is read is ASCII
-first_is_ascii : (name : List ℕ) (headers : List (List ℕ × List ℕ)) → ((h : List ℕ × List ℕ) → is_named name h ≡ true → is_read_header h ≡ true)
-    → list_any is_bad_header headers ≡ false → IsAscii (first_in (values_of name headers))
-first_is_ascii name [] read good = IsAscii-nil
-first_is_ascii name (h ∷ headers) read good =
+-- the first value of a header that is read is text
+first_is_text : (name : List ℕ) (headers : List (List ℕ × List ℕ)) → ((h : List ℕ × List ℕ) → is_named name h ≡ true → is_read_header h ≡ true)
+    → list_any is_bad_header headers ≡ false → list_all is_text_byte (first_in (values_of name headers)) ≡ true
+first_is_text name [] read good = refl
+first_is_text name (h ∷ headers) read good =
     let both = neither (is_bad_header h) (list_any is_bad_header headers) good in
     let rest = filter (is_named name) headers in
     ⊎_elim
     (λ named.
-    subst (λ (b : Bool). IsAscii (first_in (map (λ (x : List ℕ × List ℕ). x.1) (cond b (h ∷ rest) rest)))) (sym named)
-    (text_is_ascii h.1 (good_value (is_read_header h) (list_all is_text_byte h.1) both.0 (read h named))))
+    subst (λ (b : Bool). list_all is_text_byte (first_in (map (λ (x : List ℕ × List ℕ). x.1) (cond b (h ∷ rest) rest))) ≡ true) (sym named)
+    (good_value (is_read_header h) (list_all is_text_byte h.1) both.0 (read h named)))
     (λ other.
-    subst (λ (b : Bool). IsAscii (first_in (map (λ (x : List ℕ × List ℕ). x.1) (cond b (h ∷ rest) rest)))) (sym other)
-    (first_is_ascii name headers read both.1))
+    subst (λ (b : Bool). list_all is_text_byte (first_in (map (λ (x : List ℕ × List ℕ). x.1) (cond b (h ∷ rest) rest))) ≡ true) (sym other)
+    (first_is_text name headers read both.1))
     (cases_Bool (is_named name h))
 
 all_good : (headers : List (List ℕ × List ℕ)) → has_bad_header headers ≡ false → list_any is_bad_header headers ≡ false
 all_good headers good = (neither _ _ (neither _ _ good).1).1
 
+host_text_value : (headers : List (List ℕ × List ℕ)) → has_bad_header headers ≡ false → list_all is_text_byte (first_in (values_of (codes "Host") headers)) ≡ true
+host_text_value headers good =
+    first_is_text (codes "Host") headers (λ h named. or_right (is_body_header h) _ (or_left (is_named (codes "Host") h) _ named)) (all_good headers good)
+
+-- the media type and the authorization are text
+pub first_text : (headers : List (List ℕ × List ℕ)) → has_bad_header headers ≡ false
+    → (list_all is_text_byte (first_in (values_of (codes "Content-Type") headers)) ≡ true) × (list_all is_text_byte (first_in (values_of (codes "Authorization") headers)) ≡ true)
+first_text headers good = (
+  first_is_text (codes "Content-Type") headers
+      (λ h named. or_left (is_body_header h) _ (or_right (is_named (codes "Content-Length") h) _ (or_left (is_named (codes "Content-Type") h) _ named)))
+      (all_good headers good),
+  first_is_text (codes "Authorization") headers
+      (λ h named. or_right (is_body_header h) _ (or_right (is_named (codes "Host") h) _ (or_left (is_named (codes "Authorization") h) _ named)))
+      (all_good headers good),
+)
+
 pub host_is_ascii : (headers : List (List ℕ × List ℕ)) → has_bad_header headers ≡ false → IsAscii (first_in (values_of (codes "Host") headers))
-host_is_ascii headers good =
-    first_is_ascii (codes "Host") headers (λ h named. or_right (is_body_header h) _ (or_left (is_named (codes "Host") h) _ named)) (all_good headers good)
+host_is_ascii headers good = text_is_ascii (first_in (values_of (codes "Host") headers)) (host_text_value headers good)
 
 pub authorization_is_ascii : (headers : List (List ℕ × List ℕ)) → has_bad_header headers ≡ false → IsAscii (first_in (values_of (codes "Authorization") headers))
-authorization_is_ascii headers good =
-    first_is_ascii (codes "Authorization") headers
-    (λ h named. or_right (is_body_header h) _ (or_right (is_named (codes "Host") h) _ (or_left (is_named (codes "Authorization") h) _ named)))
-    (all_good headers good)
+authorization_is_ascii headers good = text_is_ascii (first_in (values_of (codes "Authorization") headers)) (first_text headers good).1
 
 pub media_is_ascii : (headers : List (List ℕ × List ℕ)) → has_bad_header headers ≡ false → IsAscii (first_in (values_of (codes "Content-Type") headers))
-media_is_ascii headers good =
-    first_is_ascii (codes "Content-Type") headers
-    (λ h named. or_left (is_body_header h) _ (or_right (is_named (codes "Content-Length") h) _ (or_left (is_named (codes "Content-Type") h) _ named)))
-    (all_good headers good)
+media_is_ascii headers good = text_is_ascii (first_in (values_of (codes "Content-Type") headers)) (first_text headers good).0
 
 small_target_byte : (b : ℕ) → is_target_byte b ≡ true → b < 128
 small_target_byte b test = grind (arith, nat_tests)

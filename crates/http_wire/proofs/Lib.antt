@@ -8,3 +8,13 @@ pub mod UniqueLemmas
 pub mod FirstLemmas
 pub mod FaultLemmas
 pub mod CloseLemmas
+pub mod AnswerLemmas
+pub mod GivenLemmas
+pub mod WrittenLemmas
+pub mod BackLines
+pub mod BackHost
+pub mod BackBytes
+pub mod BackHead
+pub mod OnlyTexts
+pub mod OnlyLemmas
+pub mod AnswerUnique

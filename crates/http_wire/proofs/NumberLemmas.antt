@@ -8,7 +8,7 @@ use Rattle.std.proofs.Math.Nat.{pow-le-pow_right}
 use Rattle.lti_outside.proofs.BoolLemmas.{and_split}
 use Rattle.lti_outside.proofs.DigitLemmas.{digit_worth}
 
-all_digits : (bs : List ℕ) → list_all is_ascii_digit bs ≡ true → AllDigits 10 bs
+pub all_digits : (bs : List ℕ) → list_all is_ascii_digit bs ≡ true → AllDigits 10 bs
 all_digits [] all = tt
 all_digits (b ∷ bs) all =
     let both = and_split (is_ascii_digit b) (list_all is_ascii_digit bs) all in

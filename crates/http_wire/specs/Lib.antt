@@ -9,3 +9,8 @@ pub mod Front
 pub mod Spelling
 pub mod Taking
 pub mod Response
+pub mod Written
+pub mod Pieces
+pub mod Back
+pub mod Answer
+pub mod AnswerFront

@@ -56,6 +56,13 @@ impl Draft {
         self.end += piece.len();
     }
 
+    /// Drops all bytes.
+    pub fn clear(&mut self)
+        ensures { self.new ≡ [] }
+    {
+        self.end = 0;
+    }
+
     /// The bytes.
     pub fn get(&self) -> &[u8]
         ensures { result.now ≡ self.now }

@@ -1,8 +1,6 @@
 // Why there is no message.
 ghost use Rattle.std.specs.Prelude.{◌≡◌};
 
-use std::alloc::AllocError;
-
 /// Why a connection gave no message. The faults stand in the order in which they are looked for, but for `CutShort`,
 /// which a head and a body may meet.
 #[derive(Clone, Copy, Debug, PartialEq, Eq)]
@@ -52,16 +50,6 @@ impl From<lti_outside::NoMemory> for WireFault {
     ghost from_gives = { λ _ fault. fault ≡ NoMemory };
 
     fn from(_: lti_outside::NoMemory) -> Self {
-        WireFault::NoMemory
-    }
-}
-
-impl From<AllocError> for WireFault {
-    ghost use Rattle.http_wire.specs.declared.fault.WireFault.TheVariants.{NoMemory};
-
-    ghost from_gives = { λ _ fault. fault ≡ NoMemory };
-
-    fn from(_: AllocError) -> Self {
         WireFault::NoMemory
     }
 }

@@ -15,9 +15,12 @@ ghost use Rattle.http_wire.specs.Front.{HeadTells, PartsTell, IsKept};
 
 use crate::WireFault;
 use crate::headers::{
-    count_named, first_named, has_bad_header, is_closed, is_encoded, length_said, trim_end,
+    count_named, first_named, first_or_empty, has_bad_header, is_closed, is_encoded, length_said,
 };
+use crate::lines::check_lines;
 use crate::message::Request;
+use crate::target::{is_target, split_target};
+use crate::values::{media_of, text_of};
 use httparse::Status;
 use httparse::spans::{EMPTY_HEADER_SPAN, HeaderSpan, RequestSpans, parse_request};
 use lti_outside::{Bytes, Limits, NoMemory, Text};
@@ -40,49 +43,6 @@ struct StartLine<'b> {
     minor: u8,
 }
 
-fn line_ends(head: &[u8]) -> usize
-    ensures { result ≡ ends_in 0 head.now }
-{
-    let mut count: usize = 0;
-    let mut before = 0;
-    for byte in head {
-        if before == b'\r' && *byte == b'\n' {
-            count += 1;
-        }
-        before = *byte;
-    }
-    count
-}
-
-fn has_bare_line_feed(head: &[u8]) -> bool
-    ensures { result ≡ has_bare_in 0 head.now }
-{
-    let mut before = 0;
-    for byte in head {
-        if *byte == b'\n' && before != b'\r' {
-            return true;
-        }
-        before = *byte;
-    }
-    false
-}
-
-/// The first fault of the lines of a head.
-pub(crate) fn check_lines(head: &[u8], limits: &Limits) -> Result<(), WireFault>
-    ensures { fault_in result ≡ first_fault (line_conditions limits.now head.now) }
-{
-    if line_ends(head) > limits.headers as usize + 2 {
-        return Err(WireFault::TooManyHeaders);
-    }
-    if has_bare_line_feed(head) {
-        return Err(WireFault::BadHead);
-    }
-    if head.starts_with(b"\r\n") {
-        return Err(WireFault::BadHead);
-    }
-    Ok(())
-}
-
 // The whole buffer as one complete head.
 fn parse_whole(head: &[u8], headers: &mut [HeaderSpan; 64]) -> Option<RequestSpans>
     ensures some { IfSome result (λ spans. (h : RequestHead) × IsRequestAt head.now headers.new spans h × ReadsRequest head.now h []) }
@@ -98,27 +58,6 @@ fn parse_whole(head: &[u8], headers: &mut [HeaderSpan; 64]) -> Option<RequestSpa
             }
         }
         _ => None,
-    }
-}
-
-fn is_target_byte(b: u8) -> bool
-    ensures { result ≡ grammar.is_target_byte b }
-{
-    (b'!'..=b'~').contains(&b) && b != b'#'
-}
-
-fn are_target_bytes(bytes: &[u8]) -> bool
-    ensures { result ≡ list_all grammar.is_target_byte bytes.now }
-{
-    bytes.iter().all(|b| is_target_byte(*b))
-}
-
-fn is_target(target: &[u8]) -> bool
-    ensures { result ≡ grammar.is_target target.now }
-{
-    match target {
-        [first, others @ ..] => *first == b'/' && are_target_bytes(others),
-        [] => false,
     }
 }
 
@@ -170,64 +109,6 @@ fn has_body(method: &[u8]) -> bool
     ensures { result ≡ spec.has_body method.now }
 {
     method == b"POST".as_slice() || method == b"PUT".as_slice() || method == b"PATCH".as_slice()
-}
-
-fn first_place(byte: u8, text: &[u8]) -> Option<usize>
-    ensures { result ≡ position (λ b. b == byte) text.now }
-{
-    text.iter().position(|b| *b == byte)
-}
-
-// The first place of the byte, or the length.
-fn place_of(byte: u8, text: &[u8]) -> usize
-    ensures place { result ≡ position_or_len (λ b. b == byte) text.now }
-    ensures bound { result ≤ length text.now }
-{
-    match first_place(byte, text) {
-        Some(place) => place,
-        None => text.len(),
-    }
-}
-
-// The path, and the query.
-fn split_target(target: &[u8]) -> (&[u8], &[u8])
-    ensures path { result.0.now ≡ before_first (λ b. b == 63) target.now }
-    ensures query { result.1.now ≡ after_first (λ b. b == 63) target.now }
-{
-    let end = place_of(b'?', target);
-    if end < target.len() {
-        (&target[..end], &target[end + 1..])
-    } else {
-        (target, &[])
-    }
-}
-
-fn first_or_empty<'b>(head: &'b [u8], headers: &[HeaderSpan], name: &[u8]) -> &'b [u8]
-    requires { All (IsHeaderWithin (length head.now)) headers.now }
-    ensures { result.now ≡ spec.first_in (values_of name.now (map (header_bytes head.now) headers.now)) }
-{
-    match first_named(head, headers, name) {
-        Some(value) => value,
-        None => &[],
-    }
-}
-
-fn text_of(alloc: Global, bytes: &[u8]) -> Result<Text, NoMemory>
-    requires { IsAscii bytes.now }
-    ensures { IfOk result (λ text. text ≡ bytes.now) }
-{
-    Text::new(alloc, ascii_str(bytes))
-}
-
-/// The media type of a value of `Content-Type`.
-pub(crate) fn media_of(alloc: Global, value: &[u8]) -> Result<Text, NoMemory>
-    requires { IsAscii value.now }
-    ensures { IfOk result (λ media. media ≡ spec.media_in value.now) }
-{
-    let front = &value[..place_of(b';', value)];
-    let mut media = String::from_str(alloc, ascii_str(trim_end(front)))?;
-    media.make_ascii_lowercase();
-    Ok(Text::from_string(media))
 }
 
 // The request of a head without fault, without its body.

@@ -10,14 +10,8 @@ ghost use Rattle.http_wire.specs.Headers.{values_of, count_of};
 ghost use Rattle.http_wire.specs.Length.{LengthSaid};
 
 use crate::WireFault;
+use crate::values::{are_text_bytes, has_close, is_length, is_same_text, number};
 use httparse::spans::HeaderSpan;
-use memchr::memchr;
-
-pub(crate) fn is_same_text(one: &[u8], other: &[u8]) -> bool
-    ensures { result ≡ spec.is_same_text one.now other.now }
-{
-    one.eq_ignore_ascii_case(other)
-}
 
 fn is_named(head: &[u8], header: &HeaderSpan, name: &[u8]) -> bool
     requires { IsHeaderWithin (length head.now) header.now }
@@ -57,18 +51,6 @@ pub(crate) fn first_named<'b>(
         }
     }
     None
-}
-
-fn is_text_byte(b: u8) -> bool
-    ensures { result ≡ spec.is_text_byte b }
-{
-    b == b'\t' || (b' '..=b'~').contains(&b)
-}
-
-fn are_text_bytes(value: &[u8]) -> bool
-    ensures { result ≡ list_all spec.is_text_byte value.now }
-{
-    value.iter().all(|b| is_text_byte(*b))
 }
 
 fn is_body_header(head: &[u8], header: &HeaderSpan) -> bool
@@ -140,33 +122,6 @@ pub(crate) fn is_encoded(head: &[u8], headers: &[HeaderSpan]) -> bool
     false
 }
 
-fn is_close(item: &[u8]) -> bool
-    ensures { result ≡ spec.is_close item.now }
-{
-    is_same_text(trim(item), b"close")
-}
-
-// The place of the first comma.
-fn comma(text: &[u8]) -> Option<usize>
-    ensures { MatchOption result (All (λ b. (b == 44) ≡ false) text.now)
-        (λ end. (end < length text.now) × All (λ b. (b == 44) ≡ false) (take end text.now) × (slice_index text.now end ≡ 44)) }
-{
-    memchr(b',', text)
-}
-
-fn has_close(value: &[u8]) -> bool
-    ensures { result ≡ spec.has_close value.now }
-{
-    let mut rest = value;
-    while let Some(end) = comma(rest) {
-        if is_close(&rest[..end]) {
-            return true;
-        }
-        rest = &rest[end + 1..];
-    }
-    is_close(rest)
-}
-
 fn is_closing(head: &[u8], header: &HeaderSpan) -> bool
     requires { IsHeaderWithin (length head.now) header.now }
     ensures { result ≡ spec.is_closing (header_bytes head.now header.now) }
@@ -187,67 +142,6 @@ pub(crate) fn is_closed(head: &[u8], headers: &[HeaderSpan]) -> bool
     false
 }
 
-fn is_blank(b: u8) -> bool
-    ensures { result ≡ is_ows b }
-{
-    b == b' ' || b == b'\t'
-}
-
-fn trim_front(text: &[u8]) -> &[u8]
-    ensures { result.now ≡ skip_ows text.now }
-{
-    let mut rest = text;
-    while let [first, others @ ..] = rest
-        && is_blank(*first)
-    {
-        rest = others;
-    }
-    rest
-}
-
-/// The text without the spaces and tabs at its end, a front of it.
-pub(crate) fn trim_end(text: &[u8]) -> &[u8]
-    ensures trimmed { result.now ≡ spec.trim_end text.now }
-    ensures front { (count : ℕ) × (result.now ≡ take count text.now) }
-{
-    let mut rest = text;
-    while let [others @ .., last] = rest
-        && is_blank(*last)
-    {
-        rest = others;
-    }
-    rest
-}
-
-fn trim(text: &[u8]) -> &[u8]
-    ensures { result.now ≡ trim_ows text.now }
-{
-    trim_end(trim_front(text))
-}
-
-fn are_digits(value: &[u8]) -> bool
-    ensures { result ≡ list_all is_ascii_digit value.now }
-{
-    value.iter().all(|b| b.is_ascii_digit())
-}
-
-fn is_length(value: &[u8]) -> bool
-    ensures { result ≡ spec.is_length value.now }
-{
-    1 <= value.len() && value.len() <= 19 && are_digits(value)
-}
-
-fn number(value: &[u8]) -> u64
-    requires { spec.is_length value.now ≡ true }
-    ensures { result ≡ digits_value 10 value.now }
-{
-    let mut number: u64 = 0;
-    for b in value {
-        number = number * 10 + u64::from(*b - b'0');
-    }
-    number
-}
-
 /// The length that `Content-Length` says, where it stands.
 pub(crate) fn length_said(head: &[u8], headers: &[HeaderSpan]) -> Result<Option<u64>, WireFault>
     requires { All (IsHeaderWithin (length head.now)) headers.now }
@@ -260,4 +154,15 @@ pub(crate) fn length_said(head: &[u8], headers: &[HeaderSpan]) -> Result<Option<
         return Err(WireFault::BadLength);
     }
     Ok(Some(number(value)))
+}
+
+/// The first value of a name, or nothing.
+pub(crate) fn first_or_empty<'b>(head: &'b [u8], headers: &[HeaderSpan], name: &[u8]) -> &'b [u8]
+    requires { All (IsHeaderWithin (length head.now)) headers.now }
+    ensures { result.now ≡ spec.first_in (values_of name.now (map (header_bytes head.now) headers.now)) }
+{
+    match first_named(head, headers, name) {
+        Some(value) => value,
+        None => &[],
+    }
 }

@@ -4,6 +4,7 @@ ghost use Rattle.lti_outside.specs.Traffic.{Moves, IsAtEnd};
 ghost use Rattle.http_wire.specs.Shape.{head_end};
 ghost use Rattle.http_wire.specs.Spelling.{fault_of};
 ghost use Rattle.http_wire.specs.Taking.{HasNoLineFeed, IsRun, HandTells, HeadTaken, BodyTaken};
+ghost use Rattle.http_wire.specs.AnswerFront.{RestTaken, AnswerBodyTaken};
 
 use crate::WireFault;
 use crate::intake::Intake;
@@ -130,4 +131,52 @@ pub fn take_body<S: Source, T: Tap>(
         }
     }
     Ok(body)
+}
+
+// A tap that keeps nothing.
+#[derive(Drop)]
+struct Untapped;
+
+impl Tap for Untapped {
+    ghost holds = { λ _ _. Unit {0} };
+
+    fn feed(&mut self, _: &[u8]) {}
+}
+
+// All bytes up to the end of input, at most so many.
+fn take_rest<S: Source>(
+    intake: &mut Intake,
+    alloc: Global,
+    source: &mut S,
+    most: u32,
+) -> Result<Bytes, WireFault>
+    ensures { (read : List ℕ) × Moves (S.traffic source.old) (S.traffic source.new) read [] (fault_of result)
+        × RestTaken most (intake.old ++ read) intake.new (IsAtEnd (S.traffic source.new)) result }
+{
+    let most = most as usize;
+    let mut rest = Bytes::new(alloc);
+    'pieces: while rest.get().len() <= most {
+        let left = most + 1 - rest.get().len();
+        if hand(intake, source, left, &mut rest, &mut Untapped)? == 0 {
+            return Ok(rest);
+        }
+    }
+    Err(WireFault::BodyTooLong)
+}
+
+/// The body of an answer: so many bytes, or all up to the end of input, at most `most`.
+pub fn take_answer_body<S: Source>(
+    intake: &mut Intake,
+    alloc: Global,
+    source: &mut S,
+    said: Option<usize>,
+    most: u32,
+) -> Result<Bytes, WireFault>
+    ensures { (read : List ℕ) × Moves (S.traffic source.old) (S.traffic source.new) read [] (fault_of result)
+        × AnswerBodyTaken most said (intake.old ++ read) intake.new (IsAtEnd (S.traffic source.new)) result }
+{
+    match said {
+        Some(count) => take_body(intake, alloc, source, &mut Untapped, count),
+        None => take_rest(intake, alloc, source, most),
+    }
 }

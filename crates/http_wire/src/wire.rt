@@ -3,12 +3,13 @@ ghost use Rattle.std.specs.Prelude.{◌≡◌, ◌≤◌, ◌++◌, ℕ, List, [
 ghost use Rattle.lti_outside.specs.Limits.{IsSound};
 ghost use Rattle.lti_outside.specs.Traffic.{Moves, IsAtEnd};
 ghost use Rattle.http_wire.specs.Spelling.{ReadTells, fault_of};
+ghost use Rattle.http_wire.specs.Answer.{AnswerTells};
 
-use crate::WireFault;
 use crate::head::read_head;
 use crate::intake::Intake;
-use crate::message::Request;
-use crate::taking::{take_body, take_head};
+use crate::message::{Answered, Request};
+use crate::taking::{take_answer_body, take_body, take_head};
+use crate::{WireFault, answer_head};
 use lti_outside::{Limits, Link, Source, Tap};
 use std::alloc::Global;
 use std::marker::Model;
@@ -53,6 +54,29 @@ fn read_message<S: Source, T: Tap>(
     }))
 }
 
+// The next answer. After an error what the buffer holds is no longer meant.
+fn read_answer<S: Source>(
+    intake: &mut Intake,
+    alloc: Global,
+    source: &mut S,
+    limits: &Limits,
+) -> Result<Answered, WireFault>
+    requires { IsSound limits.now }
+    ensures { (read : List ℕ) × Moves (S.traffic source.old) (S.traffic source.new) read [] (fault_of result)
+        × AnswerTells limits.now (intake.old ++ read) intake.new (IsAtEnd (S.traffic source.new)) result }
+{
+    let Some(head) = take_head(intake, alloc, source, limits.head)? else {
+        return Err(WireFault::CutShort);
+    };
+    let front = answer_head::read_head(alloc, head.get(), limits)?;
+    let body = take_answer_body(intake, alloc, source, front.length, limits.body)?;
+    Ok(Answered {
+        status: front.status,
+        media: front.media,
+        body,
+    })
+}
+
 impl Wire {
     /// A wire that has taken nothing.
     pub fn new() -> Wire
@@ -90,6 +114,26 @@ impl Wire {
         ensures err { OnErr result (self.new.failed ≡ true) }
     {
         let found = read_message(&mut self.intake, alloc, link, tap, limits);
+        self.failed = found.is_err();
+        found
+    }
+
+    /// Takes one answer (RFC 9112, section 4). Without `Content-Length` its body is all up to the end of input. Bytes
+    /// behind the answer are kept for the next call. After an `Err` the wire has failed.
+    pub fn read_response<L: Link>(
+        &mut self,
+        alloc: Global,
+        link: &mut L,
+        limits: &Limits,
+    ) -> Result<Answered, WireFault>
+        requires sound { IsSound limits.now }
+        requires lives { self.old.failed ≡ false }
+        ensures bytes { (read : List ℕ) × Moves (L.traffic link.old) (L.traffic link.new) read [] (fault_of result)
+            × AnswerTells limits.now (self.old.kept ++ read) self.new.kept (IsAtEnd (L.traffic link.new)) result }
+        ensures ok { OnOk result (self.new.failed ≡ false) }
+        ensures err { OnErr result (self.new.failed ≡ true) }
+    {
+        let found = read_answer(&mut self.intake, alloc, link, limits);
         self.failed = found.is_err();
         found
     }
