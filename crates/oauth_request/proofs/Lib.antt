@@ -4,3 +4,4 @@ pub mod ConditionLemmas
 pub mod ResultLemmas
 pub mod CheckedLemmas
 pub mod OneAnswerLemmas
+pub mod SigningLemmas

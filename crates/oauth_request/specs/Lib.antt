@@ -7,3 +7,4 @@ pub mod Found
 pub mod Reading
 pub mod Given
 pub mod Laws
+pub mod Signing

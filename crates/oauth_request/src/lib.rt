@@ -14,6 +14,7 @@ mod keys;
 mod laws;
 mod parameters;
 mod protocol;
+mod signing;
 mod stated;
 #[cfg(test)]
 mod tests;
@@ -23,3 +24,4 @@ pub use faults::AuthFault;
 pub use fields::Field;
 pub use keys::{Keys, KeysFault};
 pub use laws::one_answer;
+pub use signing::{sign_body, sign_form};
