@@ -1,0 +1,4 @@
+pub mod Half
+pub mod Doubt
+pub mod Journal
+pub mod Pieces
