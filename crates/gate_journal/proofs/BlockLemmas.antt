@@ -1,8 +1,9 @@
 -- Pieces, one after another.
-use Rattle.std.proofs.Common.{◌≡◌, ℕ, ◌+◌, List, [], ◌∷◌, ◌++◌, length, refl, sym, ◌∙◌, ap, arith, append_assoc, length-append}
-use Rattle.std.proofs.lemmas.List.{append-nil}
-use Rattle.std.specs.Int.{w64, to_be_bytes}
-use Rattle.gate_journal.specs.Half.{length_bytes, blocks, framed, packed_of}
+use Rattle.std.proofs.Common.{◌≡◌, ℕ, ◌+◌, ◌≤◌, List, [], ◌∷◌, ◌++◌, length, take, refl, sym, ◌∙◌, ap, arith, append_assoc, length-append}
+use Rattle.std.proofs.lemmas.List.{append-nil, take_at}
+use Rattle.std.proofs.lemmas.Nat.{from_be_bytes-to_be_bytes_8}
+use Rattle.std.specs.Int.{w64, to_be_bytes, from_be_bytes}
+use Rattle.gate_journal.specs.Half.{length_bytes, blocks, framed, packed_of, packed_generation, IsPacked}
 
 pub length-length_bytes : (n : ℕ) → length (length_bytes n) ≡ 4
 length-length_bytes n = refl
@@ -35,3 +36,15 @@ pub length-blocks-push : (payloads : List (List ℕ)) (payload : List ℕ) → l
 length-blocks-push payloads payload =
     let bytes = length_bytes (length payload) in
     omega (arith, ap length (blocks-push payloads payload), length-append (blocks payloads) (1 ∷ (bytes ++ payload)), length-append bytes payload, length-length_bytes (length payload))
+
+-- the generation of packed pieces is the one that they were packed with
+pub packed_generation-is : (generation : ℕ) (bytes : List ℕ) → IsPacked generation bytes → packed_generation bytes ≡ generation
+packed_generation-is generation bytes packed =
+    let head = to_be_bytes w64 generation in
+    let eight : length head ≡ 8 = refl in
+    ap (λ (l : List ℕ). from_be_bytes w64 (take 8 l)) (packed.bytes_are ∙ append_assoc head (blocks packed.pieces) (0 ∷ []))
+    ∙ ap (λ (l : List ℕ). from_be_bytes w64 l) (take_at head (blocks packed.pieces ++ 0 ∷ []) 8 eight)
+    ∙ from_be_bytes-to_be_bytes_8 generation packed.small
+
+pub IsPacked-long : (generation : ℕ) (bytes : List ℕ) → IsPacked generation bytes → 9 ≤ length bytes
+IsPacked-long generation bytes packed = omega (arith, ap length packed.bytes_are, length-packed_of generation packed.pieces)

@@ -126,3 +126,40 @@ within half false generation gate size room = omega (arith, room)
 
 pub other_within : (j : Place) (size : ℕ) → 2 * j.half ≤ size → other_base j + j.half ≤ size
 other_within j size room = within j.half j.second j.generation j.gate size room
+
+-- the heads as a mounting reads them
+both_open : (image : List ℕ) (half gate m n : ℕ) (t : Bool) → ltb m n ≡ t → opens image 0 ≡ true → opens image half ≡ true → generation_at image 0 ≡ m → generation_at image half ≡ n
+    → HasHeads image (place half t (cond t n m) gate) (cond t true true) (cond t true true)
+both_open image half gate m n true test a b m_is n_is = record {
+  own = record { gate = b; when_open = λ is. n_is; when_shut = λ is. absurd (false≢true (sym is)) };
+  other_shut = λ is. absurd (false≢true (sym is));
+  other_harmless = λ is.
+      let lt : m < n = grind (arith, nat_tests) in
+      (refl, record { below = omega (arith, lt, m_is); strictly = λ other. omega (arith, lt, m_is) });
+}
+both_open image half gate m n false test a b m_is n_is = record {
+  own = record { gate = a; when_open = λ is. m_is; when_shut = λ is. absurd (false≢true (sym is)) };
+  other_shut = λ is. absurd (false≢true (sym is));
+  other_harmless = λ is.
+      let le : n ≤ m = grind (arith, nat_tests) in
+      (refl, record { below = omega (arith, le, n_is); strictly = λ other. absurd (false≢true other) });
+}
+
+pub heads_read : (image : List ℕ) (half gate m n : ℕ) (a b : Bool) → opens image 0 ≡ a → opens image half ≡ b → generation_at image 0 ≡ m → generation_at image half ≡ n
+    → HasHeads image (place half (picks_second a b m n) (picked a b m n) gate) (cond (picks_second a b m n) b a) (cond (picks_second a b m n) a b)
+heads_read image half gate m n true true a_is b_is m_is n_is = both_open image half gate m n (ltb m n) refl a_is b_is m_is n_is
+heads_read image half gate m n true false a_is b_is m_is n_is = record {
+  own = record { gate = a_is; when_open = λ is. m_is; when_shut = λ is. absurd (false≢true (sym is)) };
+  other_shut = λ is. b_is;
+  other_harmless = λ is. absurd (false≢true is);
+}
+heads_read image half gate m n false true a_is b_is m_is n_is = record {
+  own = record { gate = b_is; when_open = λ is. n_is; when_shut = λ is. absurd (false≢true (sym is)) };
+  other_shut = λ is. a_is;
+  other_harmless = λ is. absurd (false≢true is);
+}
+heads_read image half gate m n false false a_is b_is m_is n_is = record {
+  own = record { gate = a_is; when_open = λ is. absurd (false≢true is); when_shut = λ is. (refl, refl) };
+  other_shut = λ is. b_is;
+  other_harmless = λ is. absurd (false≢true is);
+}

@@ -6,3 +6,5 @@ pub mod PackedLemmas
 pub mod DoubtLemmas
 pub mod CommitLemmas
 pub mod CompactLemmas
+pub mod ReadingLemmas
+pub mod UniqueLemmas

@@ -110,17 +110,21 @@ StandsFor image half payloads = (j : Place) × (j.half ≡ half) × Recovers ima
 abbrev pub IsEither : ℕ → List (List ℕ) → List (List ℕ) → List ℕ → Type 0
 IsEither half payloads others image = StandsFor image half payloads ⊎ StandsFor image half others
 
--- an open gate stands at the end of the payloads before a piece that passes the end of the current half
-pub record IsDamaged (image : List ℕ) (j : Place) : Type 0 where
+-- pieces fill the half that begins at base, up to an open gate before a piece that passes the half's end
+pub record IsPassed (image : List ℕ) (base half gate : ℕ) : Type 0 where
   pub payloads : List (List ℕ)
   pub front : List ℕ
   pub rest : List ℕ
-  pub current : IsCurrent image j
   pub image_is : image ≡ front ++ (blocks payloads ++ 1 ∷ rest)
-  pub head : length front ≡ base_of j + 9
-  pub ends : 9 + length (blocks payloads) ≡ j.gate
-  pub inside : j.gate < j.half
-  pub passes : j.half < j.gate + 6 + from_be_bytes w32 (take 4 rest)
+  pub head : length front ≡ base + 9
+  pub ends : 9 + length (blocks payloads) ≡ gate
+  pub inside : gate < half
+  pub passes : half < gate + 6 + from_be_bytes w32 (take 4 rest)
+
+-- the current half is damaged so
+pub record IsDamaged (image : List ℕ) (j : Place) : Type 0 where
+  pub current : IsCurrent image j
+  pub passed : IsPassed image (base_of j) j.half j.gate
 
 -- and that gate has this place on the disk
 abbrev pub IsDamagedAt : List ℕ → ℕ → ℕ → Type 0

@@ -2,3 +2,4 @@ pub mod Half
 pub mod Doubt
 pub mod Journal
 pub mod Pieces
+pub mod Read

@@ -3,7 +3,7 @@ ghost use Rattle.std.specs.Prelude.{◌≡◌, ◌↔◌, ◌+◌, ◌-◌, ◌<
 ghost use Rattle.lti_outside.specs.Faults.{Rose};
 ghost use Rattle.lti_outside.specs.DiskMoments.{LeavesOnly};
 ghost use Rattle.gate_journal.specs.Half.{free_of, next_place, payload_of, IsFrame, IsEither};
-ghost use Rattle.gate_journal.specs.declared.fault.CommitFault.TheVariants.{Full, DiskFault};
+ghost use Rattle.gate_journal.specs.declared.commit_fault.CommitFault.TheVariants.{Full, DiskFault};
 
 use crate::doubt::Doubt;
 use crate::{CommitFault, Journal};

@@ -3,21 +3,12 @@ ghost use Rattle.std.specs.Prelude.{◌≡◌, ◌↔◌, ◌+◌, ◌-◌, ◌^
 ghost use Rattle.lti_outside.specs.Faults.{Rose};
 ghost use Rattle.lti_outside.specs.DiskMoments.{LeavesOnly};
 ghost use Rattle.gate_journal.specs.Half.{free_of, packed_place, packed_of, packed_generation, IsPacked, StandsFor, IsEither};
-ghost use Rattle.gate_journal.specs.declared.fault.CommitFault.TheVariants.{Full, DiskFault};
+ghost use Rattle.gate_journal.specs.declared.commit_fault.CommitFault.TheVariants.{Full, DiskFault};
 
 use crate::doubt::Doubt;
+use crate::frames::read_generation;
 use crate::{CommitFault, Journal};
 use lti_outside::{Bytes, Disk, DiskFault, write_synced};
-
-// The generation of packed pieces.
-fn read_generation(packed: &[u8]) -> u64
-    requires { 8 ≤ length packed.now }
-    ensures { result ≡ packed_generation packed.now }
-{
-    let mut generation = [0; 8];
-    generation.copy_from_slice(&packed[..8]);
-    u64::from_be_bytes(generation)
-}
 
 impl<D: Disk> Journal<D> {
     ghost use Rattle.gate_journal.specs.Journal.{disk_of, place_of, doubts, Keeps, MayKeep};
@@ -59,8 +50,7 @@ impl<D: Disk> Journal<D> {
     /// As `compact`, but the pieces were packed with any generation above that of the journal.
     pub fn adopt(&mut self, packed: &Bytes) -> Result<(), CommitFault>
         requires settled { doubts self.old ≡ false }
-        requires packed { IsPacked (packed_generation packed.now.list) packed.now.list }
-        requires above { (place_of self.old).generation < packed_generation packed.now.list }
+        requires packed { (generation : ℕ) × ((place_of self.old).generation < generation) × IsPacked generation packed.now.list }
         ensures place { OnOk result (place_of self.new ≡ packed_place (place_of self.old) (packed_generation packed.now.list) (length packed.now.list - 9)) }
         ensures place_err { OnErr result (place_of self.new ≡ place_of self.old) }
         ensures any_moment { (payloads pieces : List (List ℕ)) → packed.now.list ≡ packed_of (packed_generation packed.now.list) pieces → Keeps self.old payloads

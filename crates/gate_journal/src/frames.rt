@@ -1,6 +1,6 @@
 // The bytes that are written behind a gate.
 ghost use Rattle.std.specs.Prelude.{◌≡◌, ◌^◌, ◌<◌, ◌≤◌, ◌∷◌, ◌++◌, [], length, map, All, IfOk, OnOk};
-ghost use Rattle.gate_journal.specs.Half.{framed, payload_of, packed_of, blocks, IsFrame, IsPacked};
+ghost use Rattle.gate_journal.specs.Half.{framed, payload_of, packed_of, packed_generation, blocks, IsFrame, IsPacked};
 
 use lti_outside::{Bytes, NoMemory};
 use std::alloc::Global;
@@ -49,4 +49,14 @@ fn push_piece(bytes: &mut Bytes, payload: &[u8]) -> Result<(), NoMemory>
     bytes.push(&len.to_be_bytes())?;
     bytes.push(payload)?;
     Ok(())
+}
+
+// The generation of packed pieces.
+pub(crate) fn read_generation(packed: &[u8]) -> u64
+    requires { 8 ≤ length packed.now }
+    ensures { result ≡ packed_generation packed.now }
+{
+    let mut generation = [0; 8];
+    generation.copy_from_slice(&packed[..8]);
+    u64::from_be_bytes(generation)
 }

@@ -7,14 +7,21 @@
 #![tactic(auto)]
 
 mod commit;
+mod commit_fault;
 mod compact;
 mod doubt;
-mod fault;
 mod frames;
+mod heads;
 mod journal;
+mod laws;
+mod mount;
+mod mount_fault;
 mod piece;
+mod reading;
 
-pub use fault::CommitFault;
+pub use commit_fault::CommitFault;
 pub use frames::{frame, pack};
 pub use journal::Journal;
+pub use laws::{not_damaged, one_reading};
+pub use mount_fault::{MountFault, Unmounted};
 pub use piece::Piece;

@@ -1,6 +1,6 @@
 // Why pieces were not written.
 ghost use Rattle.std.specs.Prelude.{◌≡◌};
-ghost use Rattle.gate_journal.specs.declared.fault.CommitFault.TheVariants as fault;
+ghost use Rattle.gate_journal.specs.declared.commit_fault.CommitFault.TheVariants as fault;
 
 use lti_outside::DiskFault;
 

@@ -1,0 +1,8 @@
+use Rattle.gate_journal.specs.Read.{place_read}
+use Rattle.gate_journal.specs.Pieces.{payloads_of}
+use Rattle.gate_journal.proofs.HeadLemmas.{Stands-recovers}
+use Rattle.gate_journal.proofs.journal.Journal.mount.Goals as goal
+
+pub returns-in-Ok-clause-recovers : goal.returns-in-Ok-clause-recovers
+returns-in-Ok-clause-recovers g c = λ tells.
+    Stands-recovers (g.D.Disk.seen c.args.disk) (place_read c.args.half c.in-Ok.current c.in-Ok.gate) c.in-Ok.current.is_open c.in-Ok.current.may_open (payloads_of c.in-Ok.pieces.items) (c.in-Ok.ensures.stands tells)
