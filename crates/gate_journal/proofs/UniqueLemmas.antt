@@ -55,6 +55,35 @@ no_damage (p ∷ ps) (q ∷ qs) g r s half at small g_shut fits fits' same passe
     no_damage ps qs g r s half (at + 5 + length p) small g_shut (omega (arith, length-block p ps, fits)) (omega (arith, length-block q qs, fits', size)) others
     (omega (arith, length-block q qs, passes, size))
 
+-- two pieces that both pass the end are one
+one_passed : (ps qs : List (List ℕ)) (r s : List ℕ) (half at : ℕ) → half < 2 ^ 32 → at + length (blocks ps) < half → at + length (blocks qs) < half → blocks ps ++ 1 ∷ r ≡ blocks qs ++ 1 ∷ s
+    → half < at + length (blocks ps) + 6 + from_be_bytes w32 (take 4 r) → half < at + length (blocks qs) + 6 + from_be_bytes w32 (take 4 s) → length (blocks ps) ≡ length (blocks qs)
+one_passed [] [] r s half at small fits fits' same passes passes' = refl
+one_passed [] (q ∷ qs) r s half at small fits fits' same passes passes' =
+    let behind : r ≡ length_bytes (length q) ++ (q ++ (blocks qs ++ 1 ∷ s)) = ap (λ (l : List ℕ). drop 1 l) same ∙ block_split q qs (1 ∷ s) in
+    let size : from_be_bytes w32 (take 4 r) ≡ length q =
+    ap (λ (l : List ℕ). from_be_bytes w32 (take 4 l)) behind ∙ spelled (length q) (q ++ (blocks qs ++ 1 ∷ s)) (omega (arith, length-block q qs, small, fits')) in
+    absurd (omega (arith, length-block q qs, size, fits', passes))
+one_passed (p ∷ ps) [] r s half at small fits fits' same passes passes' =
+    let behind : length_bytes (length p) ++ (p ++ (blocks ps ++ 1 ∷ r)) ≡ s = sym (block_split p ps (1 ∷ r)) ∙ ap (λ (l : List ℕ). drop 1 l) same in
+    let size : from_be_bytes w32 (take 4 s) ≡ length p =
+    ap (λ (l : List ℕ). from_be_bytes w32 (take 4 l)) (sym behind) ∙ spelled (length p) (p ++ (blocks ps ++ 1 ∷ r)) (omega (arith, length-block p ps, small, fits)) in
+    absurd (omega (arith, length-block p ps, size, fits, passes'))
+one_passed (p ∷ ps) (q ∷ qs) r s half at small fits fits' same passes passes' =
+    let behind : length_bytes (length p) ++ (p ++ (blocks ps ++ 1 ∷ r)) ≡ length_bytes (length q) ++ (q ++ (blocks qs ++ 1 ∷ s)) =
+    sym (block_split p ps (1 ∷ r)) ∙ ap (λ (l : List ℕ). drop 1 l) same ∙ block_split q qs (1 ∷ s) in
+    let size : length p ≡ length q =
+    sym (spelled (length p) (p ++ (blocks ps ++ 1 ∷ r)) (omega (arith, length-block p ps, small, fits)))
+    ∙ ap (λ (l : List ℕ). from_be_bytes w32 (take 4 l)) behind
+    ∙ spelled (length q) (q ++ (blocks qs ++ 1 ∷ s)) (omega (arith, length-block q qs, small, fits')) in
+    let after : p ++ (blocks ps ++ 1 ∷ r) ≡ q ++ (blocks qs ++ 1 ∷ s) =
+    sym (drop_at (length_bytes (length p)) (p ++ (blocks ps ++ 1 ∷ r)) 4 (length-length_bytes (length p))) ∙ ap (λ (l : List ℕ). drop 4 l) behind
+    ∙ drop_at (length_bytes (length q)) (q ++ (blocks qs ++ 1 ∷ s)) 4 (length-length_bytes (length q)) in
+    let others : blocks ps ++ 1 ∷ r ≡ blocks qs ++ 1 ∷ s = sym (drop_at p (blocks ps ++ 1 ∷ r) (length p) refl) ∙ ap (λ (l : List ℕ). drop (length p) l) after ∙ drop_at q (blocks qs ++ 1 ∷ s) (length p) (sym size) in
+    let rest = one_passed ps qs r s half (at + 5 + length p) small (omega (arith, length-block p ps, fits)) (omega (arith, length-block q qs, fits', size)) others
+    (omega (arith, length-block p ps, passes)) (omega (arith, length-block q qs, passes', size)) in
+    omega (arith, length-block p ps, length-block q qs, size, rest)
+
 body : (image : List ℕ) (base half gate : ℕ) (payloads : List (List ℕ)) (r : IsFilled image base half gate payloads) → drop (base + 9) image ≡ blocks payloads ++ r.byte ∷ r.rest
 body image base half gate payloads r = ap (λ (l : List ℕ). drop (base + 9) l) r.image_is ∙ drop_at r.front (blocks payloads ++ r.byte ∷ r.rest) (base + 9) r.head
 
@@ -106,3 +135,21 @@ undamaged image j k payloads same small r current passed =
     let filled = subst (λ (b : ℕ). IsFilled image b j.half j.gate payloads) base r.filled in
     let filled' = subst (λ (h : ℕ). IsFilled image (base_of k) h j.gate payloads) same filled in
     filled_passed image (base_of k) k.half j.gate k.gate payloads (omega (arith, same, small)) filled' passed
+
+passed_body : (image : List ℕ) (base half gate : ℕ) (d : IsPassed image base half gate) → drop (base + 9) image ≡ blocks d.payloads ++ 1 ∷ d.rest
+passed_body image base half gate d = ap (λ (l : List ℕ). drop (base + 9) l) d.image_is ∙ drop_at d.front (blocks d.payloads ++ 1 ∷ d.rest) (base + 9) d.head
+
+passed_once : (image : List ℕ) (base half gate gate' : ℕ) → half < 2 ^ 32 → IsPassed image base half gate → IsPassed image base half gate' → gate ≡ gate'
+passed_once image base half gate gate' small d e =
+    let same = one_passed d.payloads e.payloads d.rest e.rest half 9 small (omega (arith, d.ends, d.inside)) (omega (arith, e.ends, e.inside)) (sym (passed_body image base half gate d) ∙ passed_body image base half gate' e)
+    (omega (arith, d.ends, d.passes)) (omega (arith, e.ends, e.passes)) in
+    omega (arith, same, d.ends, e.ends)
+
+pub same_damage : (image : List ℕ) (j k : Place) → j.half ≡ k.half → j.half < 2 ^ 32 → IsCurrent image j → IsPassed image (base_of j) j.half j.gate → IsCurrent image k → IsPassed image (base_of k) k.half k.gate
+    → base_of j + j.gate ≡ base_of k + k.gate
+same_damage image j k same small a d b e =
+    let base = same_base image j k same a b in
+    let moved = subst (λ (b : ℕ). IsPassed image b j.half j.gate) base d in
+    let moved' = subst (λ (h : ℕ). IsPassed image (base_of k) h j.gate) same moved in
+    let gate = passed_once image (base_of k) k.half j.gate k.gate (omega (arith, same, small)) moved' e in
+    omega (arith, base, gate)

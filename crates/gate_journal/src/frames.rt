@@ -14,13 +14,13 @@ pub fn frame(alloc: Global, payload: &[u8]) -> Result<Bytes, NoMemory>
     ensures frame { IfOk result (λ bytes. IsFrame bytes.list) }
     ensures payload { IfOk result (λ bytes. payload_of bytes.list ≡ payload.now) }
 {
-    let mut bytes = Bytes::new(alloc);
+    let mut framed = Bytes::new(alloc);
     let len = payload.len() as u32;
-    bytes.reserve(payload.len() + 5)?;
-    bytes.push(&len.to_be_bytes())?;
-    bytes.push(payload)?;
-    bytes.push(&[0])?;
-    Ok(bytes)
+    framed.reserve(payload.len() + 5)?;
+    framed.push(&len.to_be_bytes())?;
+    framed.push(payload)?;
+    framed.push(&[0])?;
+    Ok(framed)
 }
 
 /// What a compaction writes behind the gate of the other half: the generation in 8 bytes, big-endian, each
@@ -30,13 +30,13 @@ pub fn pack(alloc: Global, generation: u64, pieces: &[Bytes]) -> Result<Bytes, N
     ensures bytes { IfOk result (λ bytes. bytes.list ≡ packed_of generation (map (λ piece. piece.list) pieces.now)) }
     ensures packed { IfOk result (λ bytes. IsPacked generation bytes.list) }
 {
-    let mut bytes = Bytes::new(alloc);
-    bytes.push(&generation.to_be_bytes())?;
+    let mut packed = Bytes::new(alloc);
+    packed.push(&generation.to_be_bytes())?;
     for piece in pieces {
-        push_piece(&mut bytes, piece.get())?;
+        push_piece(&mut packed, piece.get())?;
     }
-    bytes.push(&[0])?;
-    Ok(bytes)
+    packed.push(&[0])?;
+    Ok(packed)
 }
 
 // Appends an open piece.

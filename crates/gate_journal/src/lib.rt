@@ -18,10 +18,12 @@ mod mount;
 mod mount_fault;
 mod piece;
 mod reading;
+#[cfg(test)]
+mod tests;
 
 pub use commit_fault::CommitFault;
 pub use frames::{frame, pack};
 pub use journal::Journal;
-pub use laws::{not_damaged, one_reading};
+pub use laws::{kept_images, one_damage, one_reading};
 pub use mount_fault::{MountFault, Unmounted};
 pub use piece::Piece;

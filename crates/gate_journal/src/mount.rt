@@ -1,5 +1,5 @@
 // Mounting: what stands on a disk.
-ghost use Rattle.std.specs.Prelude.{◌≡◌, ◌+◌, ◌*◌, ◌^◌, ◌<◌, ◌≤◌, ℕ, List, false, length, map, if◌then◌else◌, IfOk, IfErr, IsErrAnd, OnOk, OnErr};
+ghost use Rattle.std.specs.Prelude.{◌≡◌, ◌+◌, ◌*◌, ◌^◌, ◌<◌, ◌≤◌, ℕ, List, false, length, map, if◌then◌else◌, IfOk, IfErr, IsErr, IsErrAnd, OnOk, OnErr};
 ghost use Rattle.lti_outside.specs.Faults.{Rose};
 ghost use Rattle.lti_outside.specs.Disk.{Only};
 ghost use Rattle.lti_outside.specs.DiskMoments.{LeavesOnly, OnlyReads};
@@ -86,6 +86,7 @@ impl<D: Disk> Journal<D> {
         ensures small { length (D.seen disk) < 2 * half → IsErrAnd result (λ u. (u.fault ≡ MountFault.TooSmall (length (D.seen disk))) × (u.disk ≡ disk)) }
         ensures small_only { IfErr result (λ u. (size : ℕ) → u.fault ≡ MountFault.TooSmall size → length (D.seen disk) < 2 * half) }
         ensures damaged { D.tells → IfErr result (λ u. (at : ℕ) → u.fault ≡ MountFault.Damaged at → IsDamagedAt (D.seen disk) half at) }
+        ensures refused { D.tells → (at : ℕ) → IsDamagedAt (D.seen disk) half at → IsErr result }
         ensures failed { IfErr result (λ u. u.fault ≡ MountFault.DiskFault → Rose (D.faults disk) (D.faults u.disk)) }
     {
         let mut disk = disk;
