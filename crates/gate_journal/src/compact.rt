@@ -15,8 +15,8 @@ impl<D: Disk> Journal<D> {
 
     /// Puts the pieces that `pack` packed, with the generation after `generation`, in the place of those
     /// that stand: closes the gate of the other half where it may be open, and syncs; writes the pieces
-    /// behind it, and syncs; then opens it, and syncs. Where the last write or sync failed, the journal is
-    /// doubtful.
+    /// behind it, and syncs; then opens it, and syncs. The journal mustn't be doubtful; it is after a fault
+    /// of the last write or sync. On `Full` nothing has changed.
     pub fn compact(&mut self, packed: &Bytes) -> Result<(), CommitFault>
         requires settled { doubts self.old ≡ false }
         requires packed { IsPacked ((place_of self.old).generation + 1) packed.now.list }

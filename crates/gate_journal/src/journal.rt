@@ -13,9 +13,10 @@ pub struct Journal<D: Disk> {
     pub(crate) half: u64,
     pub(crate) is_second: bool,
     pub(crate) generation: u64,
+    // the place of the end gate in the current half
     pub(crate) gate: u64,
+    // whether the gate of the current half is open, and whether that of the other may be
     pub(crate) is_open: bool,
-    // whether the gate of the other half may be open
     pub(crate) may_open: bool,
     pub(crate) doubt: Doubt,
     ghost some: { 64 ≤ half },
@@ -52,11 +53,7 @@ impl<D: Disk> Journal<D> {
     pub fn doubtful(&self) -> bool
         ensures { result ≡ doubts self.now }
     {
-        match self.doubt {
-            Doubt::Nothing => false,
-            Doubt::Piece => true,
-            Doubt::Half => true,
-        }
+        !matches!(self.doubt, Doubt::Nothing)
     }
 
     /// Hands the disk back.

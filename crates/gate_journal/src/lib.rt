@@ -18,6 +18,7 @@ mod mount;
 mod mount_fault;
 mod piece;
 mod reading;
+mod repair;
 #[cfg(test)]
 mod tests;
 

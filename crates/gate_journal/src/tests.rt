@@ -373,10 +373,10 @@ fn small_and_damaged_disks(rt: HostRuntime) -> Result<(), Fail> {
         Ok(read) => assert_eq!(rt; read.len(), 50),
         Err(_) => return Err(Fail::from("not mounted")),
     }
-    match Journal::mount(alloc, zeros(alloc, 127, &[])?, 64) {
+    match Journal::mount(alloc, zeros(alloc, 511, &[])?, 256) {
         Ok(_) => return Err(Fail::from("mounted")),
         Err(unmounted) => {
-            assert_eq!(rt; unmounted.fault, MountFault::TooSmall { size: 127 });
+            assert_eq!(rt; unmounted.fault, MountFault::TooSmall { size: 511 });
             assert!(rt; unmounted.disk.calls().is_empty());
         }
     }
