@@ -1,6 +1,9 @@
 //! Pieces and lengths by the layout's tables, and a stop or a fault at each call of the disk.
+ghost use Rattle.std.specs.Prelude.{◌^◌, ◌<◌, length, IfOk};
+ghost use Rattle.gate_journal.specs.Half.{IsPacked};
+
 use super::*;
-use lti_outside::{Bytes, Disk, DiskCall, FileDisk, MemoryDisk};
+use lti_outside::{Bytes, Disk, DiskCall, FileDisk, MemoryDisk, NoMemory};
 use std::alloc::Global;
 use std::fs::{self, OpenOptions};
 use std::test::Fail;
@@ -39,34 +42,50 @@ fn joined(alloc: Global, pieces: &[Piece]) -> Result<Vec<u8>, Fail> {
     Ok(made)
 }
 
-fn commit(alloc: Global, journal: &mut Journal<MemoryDisk>, payload: &[u8]) -> Result<bool, Fail> {
+// Whether the payload was committed.
+fn commit(alloc: Global, journal: &mut Journal<MemoryDisk>, payload: &[u8]) -> bool {
     if journal.doubtful() || payload.is_empty() || payload.len() > 1000 {
-        return Err(Fail::from("no commit"));
+        return false;
     }
-    let framed = frame(alloc, payload)?;
-    Ok(journal.commit(&framed).is_ok())
+    match frame(alloc, payload) {
+        Ok(framed) => journal.commit(&framed).is_ok(),
+        Err(_) => false,
+    }
 }
 
-fn compact(alloc: Global, journal: &mut Journal<MemoryDisk>, payload: &[u8]) -> Result<bool, Fail> {
-    let generation = journal.generation();
-    if journal.doubtful() || payload.len() > 1000 || generation > 1000 {
-        return Err(Fail::from("no compaction"));
-    }
+// One piece, packed for a generation.
+fn packed(alloc: Global, generation: u64, payload: &[u8]) -> Result<Bytes, NoMemory>
+    requires { length payload.now < 2 ^ 32 }
+    ensures { IfOk result (λ bytes. IsPacked generation bytes.list) }
+{
     let mut piece = Bytes::new(alloc);
     piece.push(payload)?;
-    let packed = pack(alloc, generation + 1, &[piece])?;
-    Ok(journal.compact(&packed).is_ok())
+    let packed = pack(alloc, generation, &[piece])?;
+    Ok(packed)
 }
 
-fn adopt(alloc: Global, journal: &mut Journal<MemoryDisk>, payload: &[u8]) -> Result<bool, Fail> {
+// Whether the journal was compacted to the payload.
+fn compact(alloc: Global, journal: &mut Journal<MemoryDisk>, payload: &[u8]) -> bool {
     let generation = journal.generation();
     if journal.doubtful() || payload.len() > 1000 || generation > 1000 {
-        return Err(Fail::from("no adoption"));
+        return false;
     }
-    let mut piece = Bytes::new(alloc);
-    piece.push(payload)?;
-    let packed = pack(alloc, generation + 7, &[piece])?;
-    Ok(journal.adopt(&packed).is_ok())
+    match packed(alloc, generation + 1, payload) {
+        Ok(packed) => journal.compact(&packed).is_ok(),
+        Err(_) => false,
+    }
+}
+
+// Whether the journal adopted the payload.
+fn adopt(alloc: Global, journal: &mut Journal<MemoryDisk>, payload: &[u8]) -> bool {
+    let generation = journal.generation();
+    if journal.doubtful() || payload.len() > 1000 || generation > 1000 {
+        return false;
+    }
+    match packed(alloc, generation + 7, payload) {
+        Ok(packed) => journal.adopt(&packed).is_ok(),
+        Err(_) => false,
+    }
 }
 
 // A journal of one piece `old`, or one that is doubtful about `new` beside it.
@@ -77,33 +96,30 @@ fn prepared(alloc: Global, act: Act) -> Result<Journal<MemoryDisk>, Fail> {
         _ => &[],
     };
     let (mut journal, pieces) = mounted(alloc, zeros(alloc, 128, failing)?)?;
-    if !pieces.is_empty() || !commit(alloc, &mut journal, b"old")? {
-        return Err(Fail::from("not prepared"));
-    }
-    match act {
+    let is_old = pieces.is_empty() && commit(alloc, &mut journal, b"old");
+    let is_ready = match act {
         Act::CompactAgain => {
-            compact(alloc, &mut journal, b"mid")?;
-            compact(alloc, &mut journal, b"old")?;
+            compact(alloc, &mut journal, b"mid") && compact(alloc, &mut journal, b"old")
         }
-        Act::RepairPiece => {
-            commit(alloc, &mut journal, b"new")?;
-        }
-        Act::RepairHalf => {
-            compact(alloc, &mut journal, b"new")?;
-        }
-        _ => {}
+        Act::RepairPiece => !commit(alloc, &mut journal, b"new"),
+        Act::RepairHalf => !compact(alloc, &mut journal, b"new"),
+        _ => true,
+    };
+    if is_old && is_ready {
+        Ok(journal)
+    } else {
+        Err(Fail::from("not prepared"))
     }
-    Ok(journal)
 }
 
-fn tried(alloc: Global, journal: &mut Journal<MemoryDisk>, act: Act) -> Result<bool, Fail> {
+fn tried(alloc: Global, journal: &mut Journal<MemoryDisk>, act: Act) -> bool {
     match act {
         Act::Commit => commit(alloc, journal, b"new"),
         Act::Compact => compact(alloc, journal, b"new"),
         Act::CompactAgain => compact(alloc, journal, b"new"),
         Act::Adopt => adopt(alloc, journal, b"new"),
-        Act::RepairPiece => Ok(journal.repair().is_ok()),
-        Act::RepairHalf => Ok(journal.repair().is_ok()),
+        Act::RepairPiece => journal.repair().is_ok(),
+        Act::RepairHalf => journal.repair().is_ok(),
     }
 }
 
@@ -181,7 +197,7 @@ fn stop_at_call(
     let mut journal = prepared(alloc, act)?;
     let from = journal.disk.calls().len();
     journal.disk.stop_at((from as u64).saturating_add(stop));
-    let is_done = tried(alloc, &mut journal, act)?;
+    let is_done = tried(alloc, &mut journal, act);
     let is_doubtful = journal.doubtful();
     let disk = journal.close();
     let (is_before, is_after) = found(alloc, &disk, before, after)?;
@@ -225,11 +241,11 @@ fn one_fault_is_mended_by_a_repair(rt: HostRuntime) -> Result<(), Fail> {
     let alloc = rt.alloc();
     for call in 4..8u64 {
         let (mut journal, _pieces) = mounted(alloc, zeros(alloc, 128, &[call])?)?;
-        assert!(rt; !commit(alloc, &mut journal, b"lost")?, "at {call}");
+        assert!(rt; !commit(alloc, &mut journal, b"lost"), "at {call}");
         assert_eq!(rt; journal.faults(), 1);
         assert_eq!(rt; journal.doubtful(), call >= 6);
         assert!(rt; journal.repair().is_ok() && !journal.doubtful());
-        assert!(rt; commit(alloc, &mut journal, b"kept")?);
+        assert!(rt; commit(alloc, &mut journal, b"kept"));
         assert_eq!(rt;
             found(alloc, &journal.close(), b"kept;", b"lost;")?,
             (true, false)
@@ -293,14 +309,10 @@ fn a_half_of_256_bytes(rt: HostRuntime) -> Result<(), Fail> {
     let framed = frame(alloc, ENTRY)?;
     for free in [241, 194, 147, 100, 53] {
         assert_eq!(rt; journal.free(), free);
-        if journal.doubtful() {
-            return Err(Fail::from("doubtful"));
-        }
+        assert!(rt; !journal.doubtful());
         assert!(rt; journal.commit(&framed) == Ok(()));
     }
-    if journal.doubtful() {
-        return Err(Fail::from("doubtful"));
-    }
+    assert!(rt; !journal.doubtful());
     assert!(rt; journal.commit(&framed) == Err(CommitFault::Full { free: 6 }));
     let disk = journal.close();
     let calls = disk.calls();
@@ -402,9 +414,8 @@ fn packed_bytes(rt: HostRuntime) -> Result<(), Fail> {
     longer.push(&[7; 50])?;
     let packed = pack(alloc, 1, &[longer])?;
     assert_eq!(rt; packed.get().len(), 64);
-    if journal.doubtful() || journal.generation() != 0 {
-        return Err(Fail::from("not new"));
-    }
+    assert!(rt; !journal.doubtful());
+    assert_eq!(rt; journal.generation(), 0);
     assert!(rt; journal.compact(&packed) == Err(CommitFault::Full { free: 49 }));
     assert_eq!(rt; journal.close().calls().len(), 4);
     Ok(())
@@ -420,10 +431,9 @@ fn a_journal_in_a_file(rt: HostRuntime) -> Result<(), Fail> {
     options.read(true).write(true);
     let (mut journal, pieces) = mounted(alloc, FileDisk::new(options.open(&rt, PATH)?)?)?;
     assert!(rt; pieces.is_empty());
-    if journal.doubtful() {
-        return Err(Fail::from("doubtful"));
-    }
-    assert!(rt; journal.commit(&frame(alloc, b"kept")?) == Ok(()));
+    let framed = frame(alloc, b"kept")?;
+    assert!(rt; !journal.doubtful());
+    assert!(rt; journal.commit(&framed) == Ok(()));
     drop(journal);
     let (_journal, pieces) = mounted(alloc, FileDisk::new(options.open(&rt, PATH)?)?)?;
     assert_eq!(rt; joined(alloc, &pieces)?.as_slice(), b"kept;".as_slice());
