@@ -1,0 +1,5 @@
+//! Outcome envelopes.
+#![tactic(auto)]
+
+mod markup;
+mod stops;
