@@ -41,7 +41,7 @@ compare (b ∷ p) (c ∷ x) q y e =
     let tail : p ++ q ≡ x ++ y = cc in
     ⊎_elim (λ h. inl (longer-cons b c p q x y head h)) (λ h. inr (shorter-cons b c p q x y head h)) (compare p x q y tail)
 
-no_cons : (q : List ℕ) (c : ℕ) (m : List ℕ) → q ≡ c ∷ m → q ≢ []
+pub no_cons : (q : List ℕ) (c : ℕ) (m : List ℕ) → q ≡ c ∷ m → q ≢ []
 no_cons q c m e z = cc
 
 pub after_then : {A B : List ℕ → Type 0} (x : List ℕ) → IsPrefixFree A → A x → After (Then A B) x B

@@ -1,3 +1,4 @@
 pub mod LanguageLemmas
 pub mod RunLemmas
 pub mod MarkupLemmas
+pub mod ChoiceLemmas

@@ -52,7 +52,7 @@ IsByte b x = x ≡ b ∷ []
 byte_free : (b : ℕ) → IsPrefixFree (IsByte b)
 byte_free b x y r s a c e = a ∙ sym c
 
-abbrev at_test : Bool → ℕ → List ℕ → Type 0
+abbrev pub at_test : Bool → ℕ → List ℕ → Type 0
 at_test t b x = MatchBool t (IsWhite x) (x ≡ b ∷ [])
 
 pub outside_markup : (m x : List ℕ) → begins_dark m ≡ true → IsMarkup m x → BeginsOutside is_white x
@@ -63,14 +63,19 @@ outside_markup (b ∷ m) x dark is =
     let front : is.front ≡ b ∷ [] = subst (λ t. at_test t b is.front) other is.first in
     (b, is.back, is.are ∙ ap (λ t. t ++ is.back) front, fails)
 
+plain_first : (t : Bool) (b : ℕ) (m : List ℕ) → (b == 32) ≡ t → is_plain (b ∷ m) ≡ true → cond t (begins_dark m) (not (is_white b)) ≡ true
+plain_first t b m e plain = subst (λ (t : Bool). cond t (begins_dark m) (not (is_white b)) ≡ true) e (and_split (cond (b == 32) (begins_dark m) (not (is_white b))) (is_plain m) plain).0
+
 -- markup that goes on behind a space begins dark
-plain_space : (b : ℕ) (m : List ℕ) → (b == 32) ≡ true → is_plain (b ∷ m) ≡ true → begins_dark m ≡ true
-plain_space b m space plain =
-    let both = and_split (not (b == 32) || begins_dark m) (is_plain m) plain in
-    ⊎_elim (λ h. absurd (false≢true (sym (not_true (b == 32) h) ∙ space))) (λ h. h) (or_split (not (b == 32)) (begins_dark m) both.0)
+pub plain_space : (b : ℕ) (m : List ℕ) → (b == 32) ≡ true → is_plain (b ∷ m) ≡ true → begins_dark m ≡ true
+plain_space b m space plain = plain_first true b m space plain
+
+-- any other byte isn't white
+pub plain_byte : (b : ℕ) (m : List ℕ) → (b == 32) ≡ false → is_plain (b ∷ m) ≡ true → is_white b ≡ false
+plain_byte b m other plain = not_true (is_white b) (plain_first false b m other plain)
 
 pub plain_rest : (b : ℕ) (m : List ℕ) → is_plain (b ∷ m) ≡ true → is_plain m ≡ true
-plain_rest b m plain = (and_split (not (b == 32) || begins_dark m) (is_plain m) plain).1
+plain_rest b m plain = (and_split (cond (b == 32) (begins_dark m) (not (is_white b))) (is_plain m) plain).1
 
 -- a space of the markup
 pub leads_space : (b : ℕ) (m bytes : List ℕ) → (b == 32) ≡ true → is_plain (b ∷ m) ≡ true → Leads (IsMarkup (b ∷ m)) bytes (IsMarkup m) (after_white bytes)

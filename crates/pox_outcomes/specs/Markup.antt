@@ -1,6 +1,7 @@
 -- Markup with white space (XML 1.0, section 2.3).
-use Rattle.std.specs.Prelude.{◌≡◌, ℕ, Bool, true, false, not, ◌&&◌, ◌||◌, ◌==◌, List, [], ◌∷◌, MatchBool, if◌then◌else◌}
+use Rattle.std.specs.Prelude.{◌≡◌, ◌<◌, ℕ, Bool, true, false, not, ◌&&◌, ◌||◌, ◌==◌, List, [], ◌∷◌, MatchBool, length, map, slice_index_or, if◌then◌else◌}
 use Rattle.std.specs.List.{list_all}
+use Rattle.std.specs.Borrow.{Bor}
 use Rattle.pox_outcomes.specs.Language.{Then}
 
 -- a space, a tab, CR or LF
@@ -24,10 +25,10 @@ abbrev pub begins_dark : List ℕ → Bool
 begins_dark [] = false
 begins_dark (b ∷ text) = not (is_white b)
 
--- behind each space of the markup stands a byte that isn't white
+-- Behind each space of the markup stands a byte that isn't white, and no other byte is white.
 abbrev pub is_plain : List ℕ → Bool
 is_plain [] = true
-is_plain (b ∷ markup) = (not (b == 32) || begins_dark markup) && is_plain markup
+is_plain (b ∷ markup) = (if b == 32 then begins_dark markup else not (is_white b)) && is_plain markup
 
 -- what stands behind the white bytes in front
 abbrev pub after_white : List ℕ → List ℕ
@@ -38,3 +39,15 @@ after_white (b ∷ bytes) = if is_white b then after_white bytes else b ∷ byte
 abbrev pub BeginsOtherwise : ℕ → List ℕ → Type 0
 BeginsOtherwise b [] = Unit {0}
 BeginsOtherwise b (c ∷ text) = c ≡ b → ⊥
+
+-- the word at a place
+abbrev pub word_at : List (List ℕ) → ℕ → List ℕ
+word_at words place = slice_index_or words place []
+
+-- the bytes that one of the first words stands for
+abbrev pub IsOneOf : List (List ℕ) → ℕ → List ℕ → Type 0
+IsOneOf words most bytes = (place : ℕ) × (place < most) × IsMarkup (word_at words place) bytes
+
+-- the lists behind references
+abbrev pub behind : List (Bor (List ℕ)) → List (List ℕ)
+behind words = map (λ word. word.now) words

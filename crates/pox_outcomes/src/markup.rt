@@ -1,8 +1,9 @@
 // Markup with white space (XML 1.0, section 2.3).
-ghost use Rattle.std.specs.Prelude.{◌≡◌, ◌∷◌, true, codes, IfOk, IfErr, MatchOption};
+ghost use Rattle.std.specs.Prelude.{◌≡◌, ◌∷◌, true, codes, IfOk, IfErr, MatchOption, ◌<◌, length, [], if◌then◌else◌};
+ghost use Rattle.std.specs.List.{list_all};
 ghost use Rattle.pox_outcomes.specs.Language.{Reads};
 ghost use Rattle.pox_outcomes.specs.Markup as spec;
-ghost use Rattle.pox_outcomes.specs.Markup.{IsMarkup, BeginsOtherwise, is_plain, after_white};
+ghost use Rattle.pox_outcomes.specs.Markup.{IsMarkup, IsOneOf, BeginsOtherwise, word_at, behind, is_plain, after_white};
 ghost use Rattle.pox_outcomes.specs.Stops.{IsStop};
 
 use crate::stops::Left;
@@ -57,10 +58,30 @@ pub fn follow<'a>(bytes: &'a [u8], markup: &[u8]) -> Result<&'a [u8], Left>
     Ok(rest)
 }
 
-pub fn trial(bytes: &[u8]) -> Result<&[u8], Left>
-    ensures reads { IfOk result (λ rest. Reads (IsMarkup (codes " <imsx_POXHeader > V1.0")) bytes.now rest.now) }
-    ensures stops { IfErr result (IsStop (IsMarkup (codes " <imsx_POXHeader > V1.0")) bytes.now) }
+/// Which of the words the bytes begin with, and what stands behind it.
+pub fn one_of<'a>(bytes: &'a [u8], words: &[&[u8]]) -> Result<(usize, &'a [u8]), Left>
+    requires plain { list_all is_plain (behind words.now) ≡ true }
+    requires one { 0 < length words.now }
+    ensures place { IfOk result (λ found. found.0 < length words.now) }
+    ensures reads { IfOk result (λ found. Reads (IsMarkup (word_at (behind words.now) found.0)) bytes.now found.1.now) }
+    ensures stops { IfErr result (IsStop (IsOneOf (behind words.now) (length words.now)) bytes.now) }
 {
-    let rest = follow(bytes, b" <imsx_POXHeader > V1.0")?;
-    Ok(rest)
+    let mut left = bytes.len();
+    for (place, word) in words.iter().enumerate() {
+        match follow(bytes, word) {
+            Ok(rest) => return Ok((place, rest)),
+            Err(stop) => left = left.min(stop.left),
+        }
+    }
+    Err(Left { left })
+}
+
+const ENDS: [&[u8]; 2] = [b" />", b" >"];
+
+pub fn trial(bytes: &[u8]) -> Result<(bool, &[u8]), Left>
+    ensures reads { IfOk result (λ found. Reads (IsMarkup (if found.0 then codes " />" else codes " >")) bytes.now found.1.now) }
+    ensures stops { IfErr result (IsStop (IsOneOf (codes " />" ∷ codes " >" ∷ []) 2) bytes.now) }
+{
+    let (place, rest) = one_of(bytes, &ENDS)?;
+    Ok((place == 0, rest))
 }
