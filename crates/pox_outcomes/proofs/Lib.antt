@@ -2,3 +2,5 @@ pub mod LanguageLemmas
 pub mod RunLemmas
 pub mod MarkupLemmas
 pub mod ChoiceLemmas
+pub mod CharacterLemmas
+pub mod NumberLemmas

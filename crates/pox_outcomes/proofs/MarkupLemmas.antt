@@ -9,7 +9,7 @@ use Rattle.pox_outcomes.specs.Markup.{is_white, IsWhite, IsPiece, IsMarkup, begi
 use Rattle.pox_outcomes.proofs.LanguageLemmas.{IsPrefixFree, Leads, leads_first, leads_then, leads_same, left-le}
 use Rattle.pox_outcomes.proofs.RunLemmas.{IsRun, IsOutside, BeginsOutside, leads_run, free_run}
 
-not_true : (t : Bool) → not t ≡ true → t ≡ false
+pub not_true : (t : Bool) → not t ≡ true → t ≡ false
 not_true true e = absurd (false≢true e)
 not_true false e = refl
 

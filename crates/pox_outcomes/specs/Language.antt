@@ -1,5 +1,5 @@
 -- Sets of byte strings, and how far some bytes go along with one.
-use Rattle.std.specs.Prelude.{◌≡◌, ◌≢◌, ℕ, ◌≤◌, List, [], ◌++◌, length}
+use Rattle.std.specs.Prelude.{◌≡◌, ◌≢◌, ℕ, ◌<◌, ◌≤◌, List, [], ◌++◌, length}
 
 -- a string of the first set, and behind it one of the second
 pub record Then (A B : List ℕ → Type 0) (bytes : List ℕ) : Type 0 where
@@ -31,3 +31,7 @@ pub record Reads (L : List ℕ → Type 0) (bytes rest : List ℕ) : Type 0 wher
   pub front : List ℕ
   pub are : bytes ≡ front ++ rest
   pub is : L front
+
+-- a string of one of the first sets
+abbrev pub IsAmong : (ℕ → List ℕ → Type 0) → ℕ → List ℕ → Type 0
+IsAmong A most bytes = (place : ℕ) × (place < most) × A place bytes

@@ -1,3 +1,5 @@
 pub mod Language
 pub mod Stops
 pub mod Markup
+pub mod Characters
+pub mod References

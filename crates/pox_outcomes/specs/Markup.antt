@@ -1,8 +1,8 @@
 -- Markup with white space (XML 1.0, section 2.3).
-use Rattle.std.specs.Prelude.{◌≡◌, ◌<◌, ℕ, Bool, true, false, not, ◌&&◌, ◌||◌, ◌==◌, List, [], ◌∷◌, MatchBool, length, map, slice_index_or, if◌then◌else◌}
+use Rattle.std.specs.Prelude.{◌≡◌, ℕ, Bool, true, false, not, ◌&&◌, ◌||◌, ◌==◌, List, [], ◌∷◌, MatchBool, length, map, slice_index_or, if◌then◌else◌}
 use Rattle.std.specs.List.{list_all}
 use Rattle.std.specs.Borrow.{Bor}
-use Rattle.pox_outcomes.specs.Language.{Then}
+use Rattle.pox_outcomes.specs.Language.{Then, IsAmong}
 
 -- a space, a tab, CR or LF
 abbrev pub is_white : ℕ → Bool
@@ -46,7 +46,7 @@ word_at words place = slice_index_or words place []
 
 -- the bytes that one of the first words stands for
 abbrev pub IsOneOf : List (List ℕ) → ℕ → List ℕ → Type 0
-IsOneOf words most bytes = (place : ℕ) × (place < most) × IsMarkup (word_at words place) bytes
+IsOneOf words most = IsAmong (λ place. IsMarkup (word_at words place)) most
 
 -- the lists behind references
 abbrev pub behind : List (Bor (List ℕ)) → List (List ℕ)

@@ -1,5 +1,7 @@
 //! Outcome envelopes.
 #![tactic(auto)]
 
+mod characters;
 mod markup;
+mod references;
 mod stops;
