@@ -3,6 +3,7 @@ use Rattle.std.proofs.Common.{◌≡◌, ◌≢◌, ℕ, ◌+◌, ◌<◌, ◌�
 use Rattle.std.proofs.lemmas.List.{append_cancel_left}
 use Rattle.std.proofs.lemmas.Bool.{cases_lt}
 use Rattle.pox_outcomes.specs.Language.{Then, IsFront, StopsAt, Reads}
+use Rattle.pox_outcomes.specs.declared.stops.Left.{Left}
 
 -- no string of the set begins another
 abbrev pub IsPrefixFree : (List ℕ → Type 0) → Type 0
@@ -178,3 +179,29 @@ stops_either {A = A} {B = B} bytes n m a b =
       (λ (h : n < m). let is : n ≡ min n m = omega arith in subst (λ (k : ℕ). StopsAt (λ x. A x ⊎ B x) bytes k) is (stops_first bytes n m (omega arith) a b))
       (λ (h : m ≤ n). let is : m ≡ min n m = omega arith in subst (λ (k : ℕ). StopsAt (λ x. A x ⊎ B x) bytes k) is (stops_same bytes m (λ x. flipped) (λ x. flipped) (stops_first bytes m n h b a)))
       (cases_lt n m)
+
+-- no string of the set begins as the bytes do
+abbrev pub IsElsewhere : (List ℕ → Type 0) → List ℕ → Type 0
+IsElsewhere B bytes = (p q r : List ℕ) → B (p ++ q) → bytes ≡ p ++ r → (p ≡ []) × (q ≢ [])
+
+-- beside a set whose strings begin otherwise
+pub stops_beside : {A B : List ℕ → Type 0} (bytes : List ℕ) (n : ℕ) → IsElsewhere B bytes → StopsAt A bytes n → StopsAt (λ x. A x ⊎ B x) bytes n
+stops_beside {A = A} {B = B} bytes n beside a = record {
+  front = a.front;
+  rest = a.rest;
+  are = a.are;
+  left_is = a.left_is;
+  begins = (a.begins.0, inl a.begins.1);
+  apart = λ p q r d e.
+    ⊎_elim (λ d. a.apart p q r d e)
+      (λ d.
+        let far = beside p q r d e in
+        let same : length bytes ≡ length r = ap length (e ∙ ap (λ t. t ++ r) far.0) in
+        let most = left-le bytes n a in
+        (omega (arith, most, same), far.1))
+      d;
+}
+
+-- the same for what a reader says
+pub stop_through : {L M : List ℕ → Type 0} (bytes rest : List ℕ) (stop : Left) → Leads L bytes M rest → StopsAt M rest stop.left → StopsAt L bytes stop.left
+stop_through bytes rest stop leads s = leads.stops stop.left s

@@ -4,3 +4,5 @@ pub mod MarkupLemmas
 pub mod ChoiceLemmas
 pub mod CharacterLemmas
 pub mod NumberLemmas
+pub mod ReferenceLemmas
+pub mod CarriedLemmas

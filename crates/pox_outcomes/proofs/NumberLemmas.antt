@@ -117,7 +117,87 @@ stuck_at base value code (d ∷ digits) (b ∷ p) q r (c ∷ rest) least ends go
     let same : digit_value c ≡ digit_value d = ap digit_value (first ∙ head) in
     absurd (ends digit (omega (arith, more, most, spells, same)))
 
--- ---- each number that is small enough goes on to one of a character
 
-abbrev IsBase : ℕ → Type 0
-IsBase base = (base ≡ 10) ⊎ (base ≡ 16)
+
+allowed_low : (c : ℕ) → 0x20 ≤ c → c ≤ 0xD7FF → is_allowed c ≡ true
+allowed_low c least most = grind (arith, nat_tests)
+
+allowed_high : (c : ℕ) → 0x10000 ≤ c → c ≤ 0x10FFFF → is_allowed c ≡ true
+allowed_high c least most = grind (arith, nat_tests)
+
+-- the number ends here
+ends_here : (base value : ℕ) → is_allowed value ≡ true → (y : List ℕ) × IsSome base value y
+ends_here base value allowed = (codes ";", (value, record { digits = []; are = refl; in_base = refl; spells = refl; allowed = allowed }))
+
+-- the number ends behind a digit more
+behind_digit : (base value digit : ℕ) → is_digit base digit ≡ true → (y : List ℕ) × IsSome base (value * base + digit_value digit) y → (y : List ℕ) × IsSome base value y
+behind_digit base value digit in_base rest = (digit ∷ rest.0, (rest.1.0, step_into base value digit rest.1.0 rest.0 in_base rest.1.1))
+
+-- a code that isn't allowed and isn't of a control character is of a surrogate or above U+FFFD
+between : (value : ℕ) → 0x20 ≤ value → value ≤ 0x10FFFF → is_allowed value ≡ false → (0xD7FF < value) × (value < 0x10000)
+between value least most fails =
+    ⊎_elim (λ (h : 0xD7FF < value).
+        ⊎_elim (λ (g : value < 0x10000). (h, g)) (λ (g : 0x10000 ≤ value). absurd (false≢true (sym fails ∙ allowed_high value g most))) (cases_lt value 0x10000))
+      (λ (h : value ≤ 0xD7FF). absurd (false≢true (sym fails ∙ allowed_low value least h)))
+      (cases_lt 0xD7FF value)
+
+goes_ten : (value : ℕ) → value ≤ 0x10FFFF → (y : List ℕ) × IsSome 10 value y
+goes_ten value most =
+    ⊎_elim (λ (h : is_allowed value ≡ true). ends_here 10 value h)
+      (λ (h : is_allowed value ≡ false).
+        ⊎_elim
+          (λ (g : value < 0x20).
+            ⊎_elim
+              (λ (z : value < 1).
+                let zero_is : 0 ≡ value = omega arith in
+                subst (λ (v : ℕ). (y : List ℕ) × IsSome 10 v y) zero_is (behind_digit 10 0 57 refl (ends_here 10 9 refl)))
+              (λ (z : 1 ≤ value).
+                behind_digit 10 value 48 refl (behind_digit 10 (value * 10 + 0) 48 refl (ends_here 10 ((value * 10 + 0) * 10 + 0) (allowed_low ((value * 10 + 0) * 10 + 0) (omega arith) (omega arith)))))
+              (cases_lt value 1))
+          (λ (g : 0x20 ≤ value).
+            let far = between value g most h in
+            let low = far.0 in
+            let high = far.1 in
+            behind_digit 10 value 48 refl (ends_here 10 (value * 10 + 0) (allowed_high (value * 10 + 0) (omega arith) (omega arith))))
+          (cases_lt value 0x20))
+      (cases_Bool (is_allowed value))
+
+goes_sixteen : (value : ℕ) → value ≤ 0x10FFFF → (y : List ℕ) × IsSome 16 value y
+goes_sixteen value most =
+    ⊎_elim (λ (h : is_allowed value ≡ true). ends_here 16 value h)
+      (λ (h : is_allowed value ≡ false).
+        ⊎_elim
+          (λ (g : value < 0x20).
+            ⊎_elim
+              (λ (z : value < 1).
+                let zero_is : 0 ≡ value = omega arith in
+                subst (λ (v : ℕ). (y : List ℕ) × IsSome 16 v y) zero_is (behind_digit 16 0 57 refl (ends_here 16 9 refl)))
+              (λ (z : 1 ≤ value).
+                behind_digit 16 value 48 refl (behind_digit 16 (value * 16 + 0) 48 refl (ends_here 16 ((value * 16 + 0) * 16 + 0) (allowed_low ((value * 16 + 0) * 16 + 0) (omega arith) (omega arith)))))
+              (cases_lt value 1))
+          (λ (g : 0x20 ≤ value).
+            let far = between value g most h in
+            let low = far.0 in
+            let high = far.1 in
+            behind_digit 16 value 48 refl (ends_here 16 (value * 16 + 0) (allowed_high (value * 16 + 0) (omega arith) (omega arith))))
+          (cases_lt value 0x20))
+      (cases_Bool (is_allowed value))
+
+pub goes_on : (base value : ℕ) → (base ≡ 10) ⊎ (base ≡ 16) → value ≤ 0x10FFFF → (y : List ℕ) × IsSome base value y
+goes_on base value (inl h) most = subst (λ (b : ℕ). (y : List ℕ) × IsSome b value y) (sym h) (goes_ten value most)
+goes_on base value (inr h) most = subst (λ (b : ℕ). (y : List ℕ) × IsSome b value y) (sym h) (goes_sixteen value most)
+
+pub least_base : (base : ℕ) → (base ≡ 10) ⊎ (base ≡ 16) → (1 ≤ base) × (base ≤ 16)
+least_base base (inl h) = (omega arith, omega arith)
+least_base base (inr h) = (omega arith, omega arith)
+
+-- a stop where no digit goes on and the number doesn't end
+pub counts_stop : (base value : ℕ) (bytes rest : List ℕ) → (base ≡ 10) ⊎ (base ≡ 16) → EndsNumber base value rest → IsOpen value rest → Counts base bytes value rest → StopsAt (IsSome base 0) bytes (length rest)
+counts_stop base value bytes rest base_is ends going counts = counts.stops (length rest) (record {
+  front = [];
+  rest = rest;
+  are = refl;
+  left_is = refl;
+  begins = goes_on base value base_is counts.most;
+  apart = λ p q r d e. stuck_at base value d.0 d.1.digits p q r rest (least_base base base_is).0 ends going d.1.are d.1.in_base d.1.spells d.1.allowed e;
+})
