@@ -1,10 +1,12 @@
 -- Characters, byte by byte.
-use Rattle.std.proofs.Common.{◌≡◌, ◌≢◌, ℕ, zero, suc, Bor, ◌+◌, ◌<◌, ◌≤◌, ◌⊎◌, inl, inr, ⊎_elim, Bool, true, false, cond, not, ◌&&◌, ◌||◌, ◌==◌, List, [], ◌∷◌, ◌++◌, length, get_or, drop, append_assoc, append-nil, refl, sym, ap, ◌∙◌, subst, arith, length-append, drop-cons, add-one}
-use Rattle.std.proofs.lemmas.List.{drop_all, append_cancel_left}
+use Rattle.std.proofs.Common.{◌≡◌, ◌≢◌, ℕ, zero, suc, Bor, ◌+◌, ◌<◌, ◌≤◌, ◌⊎◌, inl, inr, ⊎_elim, Bool, true, false, cond, not, ◌&&◌, ◌||◌, ◌==◌, nat_lt, List, [], ◌∷◌, ◌++◌, length, get_or, drop, append_assoc, append-nil, refl, sym, ap, ◌∙◌, subst, arith, length-append, drop-cons, add-one}
+use Rattle.std.proofs.lemmas.List.{drop_all}
+use Rattle.std.proofs.lemmas.Bool.{false≢true}
+use Rattle.std.proofs.lemmas.Bool.Decides.{nat_tests}
 use Rattle.std.specs.List.{list_all}
-use Rattle.lti_outside.proofs.BoolLemmas.{and_split}
+use Rattle.lti_outside.proofs.BoolLemmas.{and_split, or_split}
 use Rattle.pox_outcomes.specs.Language.{Then, StopsAt, Reads, IsAmong}
-use Rattle.pox_outcomes.specs.Characters.{is_within, IsByteIn, IsRow, row_at, behind, BeginsBeside, are_ranges}
+use Rattle.pox_outcomes.specs.Characters.{is_within, IsByteIn, IsRow, row_at, rows, IsCharacter, behind, BeginsBeside, are_ranges}
 use Rattle.pox_outcomes.proofs.LanguageLemmas.{IsPrefixFree, Leads, leads_first, leads_then, leads_same, no_cons}
 
 range_free : (range : ℕ × ℕ) → IsPrefixFree (IsByteIn range)
@@ -96,3 +98,81 @@ pub behind_at : (rows : List (Bor (List (ℕ × ℕ)))) (at : ℕ) → (get_or r
 behind_at [] at = refl
 behind_at (row ∷ rows) zero = refl
 behind_at (row ∷ rows) (suc at) = behind_at rows at
+
+-- ---- rows that don't begin alike
+
+abbrev disjoint : ℕ × ℕ → ℕ × ℕ → Bool
+disjoint a b = nat_lt a.1 b.0 || nat_lt b.1 a.0
+
+-- some byte can't be of both rows
+abbrev rows_differ : List (ℕ × ℕ) → List (ℕ × ℕ) → Bool
+rows_differ [] n = false
+rows_differ (a ∷ m) [] = false
+rows_differ (a ∷ m) (b ∷ n) = disjoint a b || rows_differ m n
+
+not_both : (a b : ℕ × ℕ) (x : ℕ) → disjoint a b ≡ true → is_within a x ≡ true → is_within b x ≡ true → ⊥
+not_both a b x apart first second = grind (arith, nat_tests)
+
+apart_rows : (m n : List (ℕ × ℕ)) → rows_differ m n ≡ true → (x y r s : List ℕ) → IsRow m x → IsRow n y → x ++ r ≡ y ++ s → ⊥
+apart_rows [] n differs x y r s a d e = false≢true differs
+apart_rows (p ∷ m) [] differs x y r s a d e = false≢true differs
+apart_rows (p ∷ m) (q ∷ n) differs x y r s a d e =
+    let ea : x ++ r ≡ a.first.0 ∷ (a.back ++ r) = ap (λ t. t ++ r) (a.are ∙ ap (λ t. t ++ a.back) a.first.1) in
+    let ed : y ++ s ≡ d.first.0 ∷ (d.back ++ s) = ap (λ t. t ++ s) (d.are ∙ ap (λ t. t ++ d.back) d.first.1) in
+    let whole : a.first.0 ∷ (a.back ++ r) ≡ d.first.0 ∷ (d.back ++ s) = sym ea ∙ e ∙ ed in
+    let head : a.first.0 ≡ d.first.0 = cc in
+    let tails : a.back ++ r ≡ d.back ++ s = cc in
+    ⊎_elim (λ h. not_both p q d.first.0 h (subst (λ (b : ℕ). is_within p b ≡ true) head a.first.2) d.first.2)
+      (λ h. apart_rows m n h a.back d.back r s a.second d.second tails)
+      (or_split (disjoint p q) (rows_differ m n) differs)
+
+abbrev are_rows : List (List (ℕ × ℕ)) → Bool
+are_rows [] = true
+are_rows (row ∷ rest) = list_all (λ other. rows_differ row other) rest && are_rows rest
+
+row_differs : (row : List (ℕ × ℕ)) (rest : List (List (ℕ × ℕ))) (j : ℕ) → j < length rest → list_all (λ other. rows_differ row other) rest ≡ true → rows_differ row (row_at rest j) ≡ true
+row_differs row [] j within all = absurd (omega arith)
+row_differs row (other ∷ rest) zero within all = (and_split (rows_differ row other) (list_all (λ other. rows_differ row other) rest) all).0
+row_differs row (other ∷ rest) (suc j) within all =
+    row_differs row rest j (omega arith) (and_split (rows_differ row other) (list_all (λ other. rows_differ row other) rest) all).1
+
+rows_once : (rest : List (List (ℕ × ℕ))) → are_rows rest ≡ true → (i j : ℕ) → i < length rest → j < length rest → (x y r s : List ℕ) → IsRow (row_at rest i) x → IsRow (row_at rest j) y → x ++ r ≡ y ++ s → x ≡ y
+rows_once [] all i j li lj x y r s a d e = absurd (omega arith)
+rows_once (row ∷ rest) all zero zero li lj x y r s a d e = free_row row x y r s a d e
+rows_once (row ∷ rest) all zero (suc j) li lj x y r s a d e =
+    absurd (apart_rows row (row_at rest j) (row_differs row rest j (omega arith) (and_split (list_all (λ other. rows_differ row other) rest) (are_rows rest) all).0) x y r s a d e)
+rows_once (row ∷ rest) all (suc i) zero li lj x y r s a d e =
+    absurd (apart_rows row (row_at rest i) (row_differs row rest i (omega arith) (and_split (list_all (λ other. rows_differ row other) rest) (are_rows rest) all).0) y x s r d a (sym e))
+rows_once (row ∷ rest) all (suc i) (suc j) li lj x y r s a d e =
+    rows_once rest (and_split (list_all (λ other. rows_differ row other) rest) (are_rows rest) all).1 i j (omega arith) (omega arith) x y r s a d e
+
+-- no character begins another
+pub free_character : IsPrefixFree IsCharacter
+free_character x y r s a d e = rows_once rows refl a.0 d.0 a.1 d.1 x y r s a.2 d.2 e
+
+-- a row of at least one range
+abbrev pub IsNonempty : List (ℕ × ℕ) → Type 0
+IsNonempty [] = ⊥
+IsNonempty (range ∷ row) = Unit {0}
+
+pub nonempty_at : (place : ℕ) → place < 13 → IsNonempty (row_at rows place)
+nonempty_at zero within = tt
+nonempty_at (suc zero) within = tt
+nonempty_at (suc (suc zero)) within = tt
+nonempty_at (suc (suc (suc zero))) within = tt
+nonempty_at (suc (suc (suc (suc zero)))) within = tt
+nonempty_at (suc (suc (suc (suc (suc zero))))) within = tt
+nonempty_at (suc (suc (suc (suc (suc (suc zero)))))) within = tt
+nonempty_at (suc (suc (suc (suc (suc (suc (suc zero))))))) within = tt
+nonempty_at (suc (suc (suc (suc (suc (suc (suc (suc zero)))))))) within = tt
+nonempty_at (suc (suc (suc (suc (suc (suc (suc (suc (suc zero))))))))) within = tt
+nonempty_at (suc (suc (suc (suc (suc (suc (suc (suc (suc (suc zero)))))))))) within = tt
+nonempty_at (suc (suc (suc (suc (suc (suc (suc (suc (suc (suc (suc zero))))))))))) within = tt
+nonempty_at (suc (suc (suc (suc (suc (suc (suc (suc (suc (suc (suc (suc zero)))))))))))) within = tt
+nonempty_at (suc (suc (suc (suc (suc (suc (suc (suc (suc (suc (suc (suc (suc place))))))))))))) within = absurd (omega arith)
+
+pub empty_row : (row : List (ℕ × ℕ)) → IsNonempty row → IsRow row [] → ⊥
+empty_row [] some_range is = some_range
+empty_row (range ∷ row) some_range is =
+    let whole : [] ≡ is.first.0 ∷ is.back = is.are ∙ ap (λ t. t ++ is.back) is.first.1 in
+    absurd (cc)

@@ -6,3 +6,5 @@ pub mod CharacterLemmas
 pub mod NumberLemmas
 pub mod ReferenceLemmas
 pub mod CarriedLemmas
+pub mod TextLemmas
+pub mod Utf8Lemmas

@@ -10,7 +10,8 @@ use Rattle.pox_outcomes.specs.Language.{Then, StopsAt, Reads}
 use Rattle.pox_outcomes.specs.Markup.{BeginsOtherwise}
 use Rattle.pox_outcomes.specs.Characters.{is_allowed}
 use Rattle.pox_outcomes.specs.References.{is_digit, number_from, IsNumber, EndsNumber, GoesOn}
-use Rattle.pox_outcomes.proofs.LanguageLemmas.{Leads, after_leads, leads_then, leads_same, no_cons}
+use Rattle.pox_outcomes.proofs.LanguageLemmas.{Leads, after_leads, no_cons}
+use Rattle.pox_outcomes.proofs.RunLemmas.{run_once}
 
 -- a number of some character
 abbrev pub IsSome : ℕ → ℕ → List ℕ → Type 0
@@ -201,3 +202,12 @@ counts_stop base value bytes rest base_is ends going counts = counts.stops (leng
   begins = goes_on base value base_is counts.most;
   apart = λ p q r d e. stuck_at base value d.0 d.1.digits p q r rest (least_base base base_is).0 ends going d.1.are d.1.in_base d.1.spells d.1.allowed e;
 })
+
+-- no number begins another, and each has one code
+pub number_once : (base value c d : ℕ) (x y r s : List ℕ) → base ≤ 16 → IsNumber base value c x → IsNumber base value d y → x ++ r ≡ y ++ s → (c ≡ d) × (x ≡ y)
+number_once base value c d x y r s small m n e =
+    let em : x ++ r ≡ m.digits ++ 59 ∷ r = ap (λ t. t ++ r) m.are ∙ append_assoc m.digits (codes ";") r in
+    let en : y ++ s ≡ n.digits ++ 59 ∷ s = ap (λ t. t ++ s) n.are ∙ append_assoc n.digits (codes ";") s in
+    let fails = semicolon base small in
+    let once = run_once (is_digit base) m.digits n.digits 59 59 r s m.in_base n.in_base fails fails (sym em ∙ e ∙ en) in
+    (m.spells ∙ ap (number_from base value) once.0 ∙ sym n.spells, m.are ∙ ap (λ t. t ++ codes ";") once.0 ∙ sym n.are)

@@ -1,8 +1,9 @@
 -- References to characters.
-use Rattle.std.proofs.Common.{◌≡◌, ◌≢◌, ℕ, ◌+◌, ◌*◌, ◌<◌, ◌≤◌, ◌⊎◌, inl, inr, ⊎_elim, Bool, true, false, cond, not, ◌&&◌, ◌||◌, ◌==◌, List, [], ◌∷◌, ◌++◌, length, get_or, slice_index, MatchBool, append_assoc, append-nil, refl, sym, ap, ◌∙◌, subst, arith, codes}
+use Rattle.std.proofs.Common.{◌≡◌, ◌≢◌, ℕ, zero, suc, ◌+◌, ◌*◌, ◌<◌, ◌≤◌, ◌⊎◌, inl, inr, ⊎_elim, Bool, true, false, cond, not, ◌&&◌, ◌||◌, ◌==◌, List, [], ◌∷◌, ◌++◌, length, get_or, slice_index, MatchBool, append_assoc, append-nil, refl, sym, ap, ◌∙◌, subst, arith, codes}
 use Rattle.std.specs.Char.{digit_value}
 use Rattle.std.specs.List.{list_all}
-use Rattle.std.proofs.lemmas.Bool.{false≢true, cases_Bool, cases_lt}
+use Rattle.std.proofs.lemmas.Bool.{false≢true, cases_Bool}
+use Rattle.std.proofs.lemmas.List.{append_cancel_left}
 use Rattle.std.proofs.lemmas.Bool.Decides.{nat_tests}
 use Rattle.lti_outside.proofs.BoolLemmas.{and_split}
 use Rattle.pox_outcomes.specs.Language.{Then, StopsAt, Reads, IsAmong}
@@ -11,7 +12,7 @@ use Rattle.pox_outcomes.specs.References.{is_digit, number_from, IsNumber, IsNum
 use Rattle.pox_outcomes.proofs.LanguageLemmas.{Leads, IsElsewhere, After, after_leads, stops_beside, stops_same, no_cons}
 use Rattle.pox_outcomes.proofs.MarkupLemmas.{free_markup}
 use Rattle.pox_outcomes.proofs.ChoiceLemmas.{IsCode, IsChoice, code_words, leads_choice, stops_choice}
-use Rattle.pox_outcomes.proofs.NumberLemmas.{IsSome, goes_on}
+use Rattle.pox_outcomes.proofs.NumberLemmas.{IsSome, goes_on, number_once}
 
 abbrev pub IsSomeNumeral : List ℕ → Type 0
 IsSomeNumeral bytes = (code : ℕ) × IsNumeral code bytes
@@ -133,3 +134,56 @@ named_reads bytes rest place code within is opened =
         second = subst (λ t. closes t place code []) (sym other) (is, refl);
       });
     }
+
+-- ---- each reference is to one character
+
+numeral_once : (c d : ℕ) (x y r s : List ℕ) → IsNumeral c x → IsNumeral d y → x ++ r ≡ y ++ s → (c ≡ d) × (x ≡ y)
+numeral_once c d x y r s (inl m) (inl n) e =
+    let em : x ++ r ≡ 120 ∷ (m.back ++ r) = ap (λ t. t ++ r) (m.are ∙ ap (λ t. t ++ m.back) (letter_x m.front m.first)) in
+    let en : y ++ s ≡ 120 ∷ (n.back ++ s) = ap (λ t. t ++ s) (n.are ∙ ap (λ t. t ++ n.back) (letter_x n.front n.first)) in
+    let whole : 120 ∷ (m.back ++ r) ≡ 120 ∷ (n.back ++ s) = sym em ∙ e ∙ en in
+    let tails : m.back ++ r ≡ n.back ++ s = cc in
+    let once = number_once 16 0 c d m.back n.back r s (omega arith) m.second n.second tails in
+    (once.0, m.are ∙ ap (λ t. t ++ m.back) (letter_x m.front m.first ∙ sym (letter_x n.front n.first)) ∙ ap (λ t. n.front ++ t) once.1 ∙ sym n.are)
+numeral_once c d x y r s (inl m) (inr n) e =
+    let em : x ++ r ≡ 120 ∷ (m.back ++ r) = ap (λ t. t ++ r) (m.are ∙ ap (λ t. t ++ m.back) (letter_x m.front m.first)) in
+    absurd (no_x d n.digits y s (m.back ++ r) n.are n.in_base (sym e ∙ em))
+numeral_once c d x y r s (inr m) (inl n) e =
+    let en : y ++ s ≡ 120 ∷ (n.back ++ s) = ap (λ t. t ++ s) (n.are ∙ ap (λ t. t ++ n.back) (letter_x n.front n.first)) in
+    absurd (no_x c m.digits x r (n.back ++ s) m.are m.in_base (e ∙ en))
+numeral_once c d x y r s (inr m) (inr n) e = number_once 10 0 c d x y r s (omega arith) m n e
+
+closing_once : (t : Bool) (place c d : ℕ) (x y r s : List ℕ) → closes t place c x → closes t place d y → x ++ r ≡ y ++ s → (c ≡ d) × (x ≡ y)
+closing_once true place c d x y r s a b e = numeral_once c d x y r s a b e
+closing_once false place c d x y r s a b e = (a.0 ∙ sym b.0, a.1 ∙ sym b.1)
+
+pub reference_once : (c d : ℕ) (x y r s : List ℕ) → IsReference c x → IsReference d y → x ++ r ≡ y ++ s → (c ≡ d) × (x ≡ y)
+reference_once c d x y r s a b e =
+    let ta = a.2 in
+    let tb = b.2 in
+    let ea : x ++ r ≡ ta.front ++ (ta.back ++ r) = ap (λ t. t ++ r) ta.are ∙ append_assoc ta.front ta.back r in
+    let eb : y ++ s ≡ tb.front ++ (tb.back ++ s) = ap (λ t. t ++ s) tb.are ∙ append_assoc tb.front tb.back s in
+    let same = code_openings a.0 b.0 a.1 b.1 ta.front tb.front (ta.back ++ r) (tb.back ++ s) ta.first tb.first (sym ea ∙ e ∙ eb) in
+    let rest : ta.back ++ r ≡ tb.back ++ s = append_cancel_left tb.front (ta.back ++ r) (tb.back ++ s) (ap (λ t. t ++ (ta.back ++ r)) (sym same.1) ∙ sym ea ∙ e ∙ eb) in
+    let there : IsClosing b.0 c ta.back = subst (λ (k : ℕ). IsClosing k c ta.back) same.0 ta.second in
+    let once = closing_once (b.0 == 5) b.0 c d ta.back tb.back r s there tb.second rest in
+    (once.0, ta.are ∙ ap (λ t. t ++ ta.back) same.1 ∙ ap (λ t. tb.front ++ t) once.1 ∙ sym tb.are)
+
+opening_mark : (place : ℕ) → place < 6 → (m : List ℕ) × (word_at openings place ≡ 38 ∷ m)
+opening_mark zero within = (codes "lt;", refl)
+opening_mark (suc zero) within = (codes "gt;", refl)
+opening_mark (suc (suc zero)) within = (codes "amp;", refl)
+opening_mark (suc (suc (suc zero))) within = (codes "apos;", refl)
+opening_mark (suc (suc (suc (suc zero)))) within = (codes "quot;", refl)
+opening_mark (suc (suc (suc (suc (suc zero))))) within = (codes "#", refl)
+opening_mark (suc (suc (suc (suc (suc (suc place)))))) within = absurd (omega arith)
+
+mark_front : (m x : List ℕ) → IsMarkup (38 ∷ m) x → (t : List ℕ) × (x ≡ 38 ∷ t)
+mark_front m x a = (a.back, a.are ∙ ap (λ t. t ++ a.back) a.first)
+
+-- a reference begins with `&`
+pub reference_begins : (c : ℕ) (x : List ℕ) → IsReference c x → (t : List ℕ) × (x ≡ 38 ∷ t)
+reference_begins c x a =
+    let mark = opening_mark a.0 a.1 in
+    let front = mark_front mark.0 a.2.front (subst (λ w. IsMarkup w a.2.front) mark.1 a.2.first) in
+    (front.0 ++ a.2.back, a.2.are ∙ ap (λ t. t ++ a.2.back) front.1)

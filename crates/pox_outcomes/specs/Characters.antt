@@ -1,5 +1,5 @@
 -- Characters that XML 1.0 allows (section 2.2), in UTF-8 (RFC 3629, section 4).
-use Rattle.std.specs.Prelude.{◌≡◌, ℕ, Bool, true, ◌&&◌, ◌||◌, ◌==◌, nat_le, List, [], ◌∷◌, slice_index_or, map}
+use Rattle.std.specs.Prelude.{◌≡◌, ℕ, Bool, true, false, ◌&&◌, ◌||◌, ◌==◌, nat_le, List, [], ◌∷◌, slice_index_or, map}
 use Rattle.std.specs.List.{list_all}
 use Rattle.std.specs.Borrow.{Bor}
 use Rattle.pox_outcomes.specs.Language.{Then, IsAmong}
@@ -65,3 +65,13 @@ behind rows = map (λ row. row.now) rows
 -- one allowed character
 abbrev pub IsCharacter : List ℕ → Type 0
 IsCharacter = IsAmong (λ place. IsRow (row_at rows place)) 13
+
+-- the bytes begin with one that passes
+abbrev pub begins : (ℕ → Bool) → List ℕ → Bool
+begins P [] = false
+begins P (b ∷ bytes) = P b
+
+-- an allowed character whose first byte passes
+pub record IsCharacterBy (P : ℕ → Bool) (bytes : List ℕ) : Type 0 where
+  pub character : IsCharacter bytes
+  pub first : begins P bytes ≡ true

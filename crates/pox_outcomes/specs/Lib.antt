@@ -3,3 +3,4 @@ pub mod Stops
 pub mod Markup
 pub mod Characters
 pub mod References
+pub mod Texts

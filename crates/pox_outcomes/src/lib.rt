@@ -5,3 +5,4 @@ mod characters;
 mod markup;
 mod references;
 mod stops;
+mod texts;
