@@ -20,7 +20,7 @@ IsOutside P [] = Unit {0}
 IsOutside P (b ∷ t) = P b ≡ false
 
 -- no byte of a run fails
-run_no : (P : ℕ → Bool) (a : List ℕ) (b : ℕ) (t : List ℕ) → IsRun P (a ++ b ∷ t) → P b ≡ false → ⊥
+pub run_no : (P : ℕ → Bool) (a : List ℕ) (b : ℕ) (t : List ℕ) → IsRun P (a ++ b ∷ t) → P b ≡ false → ⊥
 run_no P [] b t run fails = false≢true (sym fails ∙ (and_split (P b) (list_all P t) run).0)
 run_no P (c ∷ a) b t run fails = run_no P a b t (and_split (P c) (list_all P (a ++ b ∷ t)) run).1 fails
 
@@ -39,7 +39,7 @@ run_once P (x ∷ a) (y ∷ c) b d s t ra rc nb nd e =
     let rest = run_once P a c b d s t (and_split (P x) (list_all P a) ra).1 (and_split (P y) (list_all P c) rc).1 nb nd tail in
     (let same = rest.0 in cc, rest.1)
 
-run_front : (P : ℕ → Bool) (p : List ℕ) (c : ℕ) (m run : List ℕ) → run ≡ p ++ c ∷ m → IsRun P run → IsRun P p
+pub run_front : (P : ℕ → Bool) (p : List ℕ) (c : ℕ) (m run : List ℕ) → run ≡ p ++ c ∷ m → IsRun P run → IsRun P p
 run_front P [] c m run e r = refl
 run_front P (b ∷ p) c m [] e r = absurd (cc)
 run_front P (b ∷ p) c m (a ∷ run) e r =
@@ -50,8 +50,8 @@ run_front P (b ∷ p) c m (a ∷ run) e r =
     let rest = run_front P p c m run tail both.1 in
     rw (here, rest) refl
 
-ends : (P : ℕ → Bool) (run front back q : List ℕ) → IsRun P run → run ++ q ≡ front ++ back → BeginsOutside P back → q ≢ []
-ends P run front back q r e out none =
+pub run_ends : (P : ℕ → Bool) (run front back q : List ℕ) → IsRun P run → run ++ q ≡ front ++ back → BeginsOutside P back → q ≢ []
+run_ends P run front back q r e out none =
     let whole : run ≡ front ++ out.0 ∷ out.1 = sym (append-nil run) ∙ ap (λ t. run ++ t) (sym none) ∙ e ∙ ap (λ t. front ++ t) out.2 in
     run_no P front out.0 out.1 (subst (IsRun P) whole r) out.3
 
@@ -63,7 +63,7 @@ apart_at : {B : List ℕ → Type 0} (P : ℕ → Bool) (run front back m q rest
     → rest ≡ m ++ r → run ++ (m ++ q) ≡ front ++ back → B back → StopsAt B rest n → (n ≤ length r) × (q ≢ [])
 apart_at P run front back [] q rest r n ra rb out fails is e b s =
     let long = ap length is in
-    (omega (arith, left-le rest n s, long), ends P run front back q ra e out)
+    (omega (arith, left-le rest n s, long), run_ends P run front back q ra e out)
 apart_at {B = B} P run front back (c ∷ m) q rest r n ra rb out fails is e b s =
     let first : IsOutside P (c ∷ (m ++ r)) = subst (IsOutside P) is fails in
     s.apart (c ∷ m) q r (subst B (sym (same_back P run front back m q rest r c ra rb out first e)) b) is
@@ -89,7 +89,7 @@ leads_run {B = B} P bytes run rest are is fails outside = record {
           let front_run : IsRun P p = run_front P p h.0 h.1 run h.2 is in
           let long = ap length h.3 in
           let more = length-append h.1 rest in
-          (omega (arith, left-le rest n s, long, more), ends P p d.front d.back q front_run d.are (outside d.back d.second)))
+          (omega (arith, left-le rest n s, long, more), run_ends P p d.front d.back q front_run d.are (outside d.back d.second)))
         (compare p run r rest (sym e ∙ are));
   };
 }

@@ -9,9 +9,9 @@ use Rattle.pox_outcomes.specs.Language.{Then, IsFront, StopsAt, Reads}
 use Rattle.pox_outcomes.specs.Markup.{is_white, IsWhite, BeginsOtherwise}
 use Rattle.pox_outcomes.specs.Characters.{IsRow, rows, row_at, IsCharacter, IsCharacterBy, begins}
 use Rattle.pox_outcomes.specs.References.{IsReference}
-use Rattle.pox_outcomes.specs.Texts.{is_literal, IsLiteral, IsUnit, is_gap, IsGap, IsRest, ends, goes, IsUnits, IsBegun, IsText}
+use Rattle.pox_outcomes.specs.Texts.{is_literal, IsLiteral, IsUnit, is_gap, IsGap, IsRest, ends, goes, IsUnits, IsBegun, IsText, Pushes, PushesGap}
 use Rattle.pox_outcomes.proofs.LanguageLemmas.{IsPrefixFree, IsElsewhere, Leads, compare, leads_first, stops_here, stops_beside, stops_same, left-le, no_cons}
-use Rattle.pox_outcomes.proofs.RunLemmas.{IsRun, IsOutside, BeginsOutside, run_once, leads_run}
+use Rattle.pox_outcomes.proofs.RunLemmas.{IsRun, IsOutside, BeginsOutside, run_once, run_front, run_ends, run_no, leads_run}
 use Rattle.pox_outcomes.proofs.MarkupLemmas.{not_true}
 use Rattle.pox_outcomes.proofs.CharacterLemmas.{free_character, nonempty_at, empty_row}
 use Rattle.pox_outcomes.proofs.ReferenceLemmas.{IsSomeReference, reference_once, reference_begins}
@@ -249,21 +249,6 @@ pub record Spells (bytes text rest : List ℕ) : Type 0 where
   pub into : (t y : List ℕ) → IsUnits t y → IsText (text ++ t) (front ++ y)
   pub stops : (n : ℕ) → StopsAt IsSomeUnits rest n → StopsAt IsSomeText bytes n
 
--- what the unit spells is appended
-pub record Pushes (old new bytes rest : List ℕ) : Type 0 where
-  pub here : List ℕ
-  pub unit : List ℕ
-  pub are : bytes ≡ unit ++ rest
-  pub is : IsUnit here unit
-  pub new_is : new ≡ old ++ here
-
--- the gap is appended
-pub record PushesGap (old new bytes rest : List ℕ) : Type 0 where
-  pub gap : List ℕ
-  pub are : bytes ≡ gap ++ rest
-  pub is : IsGap gap
-  pub new_is : new ≡ old ++ gap
-
 text_of_dark : (x : List ℕ) → Then (IsRun is_white) IsDark x → IsSomeText x
 text_of_dark x h = ⊎_elim (λ u. (u.0, record { front = h.front; back = h.back; are = h.are; first = h.first; second = inr u.1 }))
     (λ e. ([], record { front = h.front; back = h.back; are = h.are; first = h.first; second = inl (refl, e) })) h.second
@@ -333,3 +318,63 @@ spells_stop bytes text rest n spells s = spells.stops n (units_stop rest n s)
 pub spells_stop_behind : (bytes text new rest end : List ℕ) (n : ℕ) → Spells bytes text rest → Pushes text new rest end → StopsAt IsSomeRest end n → StopsAt IsSomeText bytes n
 spells_stop_behind bytes text new rest end n spells pushes s =
     spells.stops n (units_behind rest end n (record { front = pushes.unit; are = pushes.are; is = (pushes.here, pushes.is) }) s)
+
+-- ---- CR in a gap
+
+some_gap : (gap gap2 w z : List ℕ) → list_all is_gap gap ≡ false → IsWhite gap → IsGap gap2 → BeginsOutside is_white z → gap ++ w ≡ gap2 ++ z → ⊥
+some_gap gap gap2 w z fails white is outside e =
+    ⊎_elim
+      (λ h. longer h.0 h.1 h.2)
+      (λ h. false≢true (sym fails ∙ run_front is_gap gap h.0 h.1 gap2 h.2 is))
+      (compare gap gap2 w z e)
+  where
+  longer : (m : List ℕ) → gap ≡ gap2 ++ m → z ≡ m ++ w → ⊥
+  longer [] a b = false≢true (sym fails ∙ subst IsGap (sym (a ∙ append-nil gap2)) is)
+  longer (c ∷ m) a b =
+    let whole : outside.0 ∷ outside.1 ≡ c ∷ (m ++ w) = sym outside.2 ∙ b in
+    let head : outside.0 ≡ c = cc in
+    run_no is_white gap2 c m (subst IsWhite a white) (sym (ap is_white head) ∙ outside.3)
+
+less_stops : (dark : List ℕ) → BeginsOtherwise 60 dark → StopsAt (λ x. x ≡ codes "<") dark (length dark)
+less_stops dark other = record {
+  front = [];
+  rest = dark;
+  are = refl;
+  left_is = refl;
+  begins = (codes "<", refl);
+  apart = λ p q r d e.
+    let far = elsewhere_less dark p q r other d e in
+    let same : length dark ≡ length r = ap length (e ∙ ap (λ t. t ++ r) far.0) in
+    (omega (arith, same), far.1);
+}
+
+less_outside : (x : List ℕ) → x ≡ codes "<" → BeginsOutside is_white x
+less_outside x e = (60, [], e, refl)
+
+return_apart : (bytes gap dark text p q r x : List ℕ) → bytes ≡ gap ++ dark → IsWhite gap → list_all is_gap gap ≡ false → IsOutside is_white dark → BeginsOtherwise 60 dark → x ≡ p ++ q → IsRest text x → bytes ≡ p ++ r
+    → (length dark ≤ length r) × (q ≢ [])
+return_apart bytes gap dark text p q r x are white fails outside other x_is (ends run is run_are none) e =
+    let stop = (leads_run is_white bytes gap dark are white outside less_outside).stops (length dark) (less_stops dark other) in
+    stop.apart p q r (record { front = run; back = codes "<"; are = sym x_is ∙ run_are; first = is; second = refl }) e
+return_apart bytes gap dark text p q r x are white fails outside other x_is (goes gap2 here unit others rest is unit_is behind run_are text_is) e =
+    let first = unit_byte here unit unit_is in
+    let begins_out : BeginsOutside is_white (unit ++ rest) = (first.0, first.1 ++ rest, ap (λ t. t ++ rest) first.2, first.3) in
+    let whole : p ++ q ≡ gap2 ++ (unit ++ rest) = sym x_is ∙ run_are in
+    ⊎_elim
+      (λ h. absurd (some_gap gap gap2 (h.0 ++ q) (unit ++ rest) fails white is begins_out (sym (append_assoc gap h.0 q) ∙ ap (λ t. t ++ q) (sym h.1) ∙ whole)))
+      (λ h.
+        let long = ap length h.3 in
+        let more = length-append h.1 dark in
+        (omega (arith, long, more), run_ends is_white p gap2 (unit ++ rest) q (run_front is_white p h.0 h.1 gap h.2 white) whole begins_out))
+      (compare p gap r dark (sym e ∙ are))
+
+-- a CR among the white bytes, and no end tag behind them
+pub return_stops : (bytes gap dark : List ℕ) → bytes ≡ gap ++ dark → IsWhite gap → list_all is_gap gap ≡ false → IsOutside is_white dark → BeginsOtherwise 60 dark → StopsAt IsSomeRest bytes (length dark)
+return_stops bytes gap dark are white fails outside other = record {
+  front = gap;
+  rest = dark;
+  are = are;
+  left_is = refl;
+  begins = (codes "<", ([], ends gap white refl refl));
+  apart = λ p q r d e. return_apart bytes gap dark d.0 p q r (p ++ q) are white fails outside other refl d.1 e;
+}

@@ -1,11 +1,15 @@
 -- Allowed characters are UTF-8.
-use Rattle.std.proofs.Common.{◌≡◌, ℕ, zero, suc, ◌+◌, ◌-◌, ◌*◌, ◌/◌, ◌%◌, ◌<◌, ◌≤◌, ◌⊎◌, inl, inr, ⊎_elim, Bool, true, false, ◌&&◌, List, [], ◌∷◌, ◌++◌, length, refl, sym, ap, ap₂, ◌∙◌, subst, arith, append-nil, lt-ltb, le-ltb}
+use Rattle.std.proofs.Common.{◌≡◌, ℕ, zero, suc, ◌+◌, ◌-◌, ◌*◌, ◌/◌, ◌%◌, ◌<◌, ◌≤◌, ◌⊎◌, inl, inr, ⊎_elim, Bool, true, false, ◌&&◌, List, [], ◌∷◌, ◌++◌, length, take, length-append, refl, sym, ap, ap₂, ◌∙◌, subst, arith, append-nil, lt-ltb, le-ltb}
 use Rattle.std.specs.Char.{IsScalar, encode_utf8}
 use Rattle.std.specs.Str.{IsUtf8}
 use Rattle.std.proofs.lemmas.Bool.{cond-true, cond-false}
 use Rattle.std.proofs.lemmas.Bool.Decides.{nat_tests}
 use Rattle.std.proofs.lemmas.Str.{IsUtf8-encode, IsUtf8-append, IsUtf8-nil, encode_ascii}
+use Rattle.std.specs.List.{list_all}
+use Rattle.std.proofs.lemmas.List.{take_at}
+use Rattle.lti_outside.proofs.BoolLemmas.{and_split}
 use Rattle.pox_outcomes.specs.Language.{Then}
+use Rattle.pox_outcomes.specs.Texts.{is_gap, IsGap}
 use Rattle.pox_outcomes.specs.Characters.{is_within, IsByteIn, IsRow, row_at, rows, IsCharacter, is_allowed}
 
 pub encode_two : (c : ℕ) → 0x80 ≤ c → c < 0x800 → encode_utf8 c ≡ (192 + c / 64) ∷ (128 + c % 64) ∷ []
@@ -145,3 +149,23 @@ utf8_character x is = at_place is.0 x is.1 is.2
 
 pub scalar_allowed : (c : ℕ) → is_allowed c ≡ true → IsScalar c
 scalar_allowed c allowed = grind (arith, nat_tests)
+
+-- a gap is UTF-8
+pub utf8_gap : (gap : List ℕ) → IsGap gap → IsUtf8 gap
+utf8_gap [] is = IsUtf8-nil
+utf8_gap (b ∷ gap) is =
+    let both = and_split (is_gap b) (list_all is_gap gap) is in
+    let small : b < 128 = grind (arith, nat_tests) in
+    IsUtf8-append (b ∷ []) gap (utf8_one b small) (utf8_gap gap both.1)
+
+-- the front of some bytes, by what is left
+pub front_taken : (bytes front rest : List ℕ) → bytes ≡ front ++ rest → take (length bytes - length rest) bytes ≡ front
+front_taken bytes front rest are =
+    let long = ap length are ∙ length-append front rest in
+    let count : length front ≡ length bytes - length rest = omega (arith, long) in
+    ap (take (length bytes - length rest)) are ∙ take_at front rest (length bytes - length rest) count
+
+pub rest_fits : (bytes front rest : List ℕ) → bytes ≡ front ++ rest → length rest ≤ length bytes
+rest_fits bytes front rest are =
+    let long = ap length are ∙ length-append front rest in
+    omega (arith, long)

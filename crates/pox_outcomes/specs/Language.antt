@@ -35,3 +35,7 @@ pub record Reads (L : List ℕ → Type 0) (bytes rest : List ℕ) : Type 0 wher
 -- a string of one of the first sets
 abbrev pub IsAmong : (ℕ → List ℕ → Type 0) → ℕ → List ℕ → Type 0
 IsAmong A most bytes = (place : ℕ) × (place < most) × A place bytes
+
+-- a string of some member of the family
+abbrev pub Any : {V : Type 0} → (V → List ℕ → Type 0) → List ℕ → Type 0
+Any {V = V} L bytes = (v : V) × L v bytes

@@ -47,3 +47,18 @@ IsBegun text bytes = ((text ≡ []) × (bytes ≡ codes "<")) ⊎ IsUnits text b
 
 abbrev pub IsText : List ℕ → List ℕ → Type 0
 IsText text = IsWhite ▸ IsBegun text
+
+-- A unit stands before the rest, and what it spells is appended.
+pub record Pushes (old new bytes rest : List ℕ) : Type 0 where
+  pub here : List ℕ
+  pub unit : List ℕ
+  pub are : bytes ≡ unit ++ rest
+  pub is : IsUnit here unit
+  pub new_is : new ≡ old ++ here
+
+-- A gap stands before the rest, and is appended.
+pub record PushesGap (old new bytes rest : List ℕ) : Type 0 where
+  pub gap : List ℕ
+  pub are : bytes ≡ gap ++ rest
+  pub is : IsGap gap
+  pub new_is : new ≡ old ++ gap
