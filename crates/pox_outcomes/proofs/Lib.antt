@@ -8,3 +8,4 @@ pub mod ReferenceLemmas
 pub mod CarriedLemmas
 pub mod TextLemmas
 pub mod Utf8Lemmas
+pub mod LeafLemmas

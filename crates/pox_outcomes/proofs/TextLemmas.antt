@@ -378,3 +378,89 @@ return_stops bytes gap dark are white fails outside other = record {
   begins = (codes "<", ([], ends gap white refl refl));
   apart = λ p q r d e. return_apart bytes gap dark d.0 p q r (p ++ q) are white fails outside other refl d.1 e;
 }
+
+-- ---- bytes spell one text
+
+-- the first parts are the same, and so is what stands behind
+pub behind_same : (a b x y : List ℕ) → a ≡ b → a ++ x ≡ b ++ y → x ≡ y
+behind_same a b x y same e = append_cancel_left b x y (ap (λ t. t ++ x) (sym same) ∙ e)
+
+pub rest_once : (t u x y r s : List ℕ) → IsRest t x → IsRest u y → x ++ r ≡ y ++ s → (t ≡ u) × (x ≡ y)
+rest_once t u x y r s (ends white is are none) (ends white2 is2 are2 none2) e =
+    let ex : x ++ r ≡ white ++ 60 ∷ r = ap (λ t. t ++ r) are ∙ append_assoc white (codes "<") r in
+    let ey : y ++ s ≡ white2 ++ 60 ∷ s = ap (λ t. t ++ s) are2 ∙ append_assoc white2 (codes "<") s in
+    let once = run_once is_white white white2 60 60 r s is is2 refl refl (sym ex ∙ e ∙ ey) in
+    (none ∙ sym none2, are ∙ ap (λ t. t ++ codes "<") once.0 ∙ sym are2)
+rest_once t u x y r s (ends white is are none) (goes gap here unit others rest gap_is unit_is behind run_are text_is) e =
+    let first = unit_byte here unit unit_is in
+    let ex : x ++ r ≡ white ++ 60 ∷ r = ap (λ t. t ++ r) are ∙ append_assoc white (codes "<") r in
+    let ey : y ++ s ≡ gap ++ first.0 ∷ ((first.1 ++ rest) ++ s) = ap (λ t. t ++ s) (run_are ∙ ap (λ t. gap ++ (t ++ rest)) first.2) ∙ append_assoc gap (first.0 ∷ (first.1 ++ rest)) s in
+    let once = run_once is_white white gap 60 first.0 r ((first.1 ++ rest) ++ s) is (gap_white gap gap_is) refl first.3 (sym ex ∙ e ∙ ey) in
+    let tails = once.1 in
+    let head : 60 ≡ first.0 = cc in
+    absurd (false≢true (sym first.4 ∙ rw (sym head) refl))
+rest_once t u x y r s (goes gap here unit others rest gap_is unit_is behind run_are text_is) (ends white is are none) e =
+    let first = unit_byte here unit unit_is in
+    let ey : y ++ s ≡ white ++ 60 ∷ s = ap (λ t. t ++ s) are ∙ append_assoc white (codes "<") s in
+    let ex : x ++ r ≡ gap ++ first.0 ∷ ((first.1 ++ rest) ++ r) = ap (λ t. t ++ r) (run_are ∙ ap (λ t. gap ++ (t ++ rest)) first.2) ∙ append_assoc gap (first.0 ∷ (first.1 ++ rest)) r in
+    let once = run_once is_white gap white first.0 60 ((first.1 ++ rest) ++ r) s (gap_white gap gap_is) is first.3 refl (sym ex ∙ e ∙ ey) in
+    let tails = once.1 in
+    let head : first.0 ≡ 60 = cc in
+    absurd (false≢true (sym first.4 ∙ rw head refl))
+rest_once t u x y r s (goes gap here unit others rest gap_is unit_is behind run_are text_is) (goes gap2 here2 unit2 others2 rest2 gap_is2 unit_is2 behind2 run_are2 text_is2) e =
+    let first = unit_byte here unit unit_is in
+    let other = unit_byte here2 unit2 unit_is2 in
+    let ex : x ++ r ≡ gap ++ (unit ++ (rest ++ r)) = ap (λ t. t ++ r) run_are ∙ append_assoc gap (unit ++ rest) r ∙ ap (λ t. gap ++ t) (append_assoc unit rest r) in
+    let ey : y ++ s ≡ gap2 ++ (unit2 ++ (rest2 ++ s)) = ap (λ t. t ++ s) run_are2 ∙ append_assoc gap2 (unit2 ++ rest2) s ∙ ap (λ t. gap2 ++ t) (append_assoc unit2 rest2 s) in
+    let fx : gap ++ (unit ++ (rest ++ r)) ≡ gap ++ first.0 ∷ (first.1 ++ (rest ++ r)) = ap (λ t. gap ++ (t ++ (rest ++ r))) first.2 in
+    let fy : gap2 ++ (unit2 ++ (rest2 ++ s)) ≡ gap2 ++ other.0 ∷ (other.1 ++ (rest2 ++ s)) = ap (λ t. gap2 ++ (t ++ (rest2 ++ s))) other.2 in
+    let whole = sym ex ∙ e ∙ ey in
+    let once = run_once is_white gap gap2 first.0 other.0 (first.1 ++ (rest ++ r)) (other.1 ++ (rest2 ++ s)) (gap_white gap gap_is) (gap_white gap2 gap_is2) first.3 other.3 (sym fx ∙ whole ∙ fy) in
+    let inner = behind_same gap gap2 (unit ++ (rest ++ r)) (unit2 ++ (rest2 ++ s)) once.0 whole in
+    let same = unit_once here here2 unit unit2 (rest ++ r) (rest2 ++ s) unit_is unit_is2 inner in
+    let last = behind_same unit unit2 (rest ++ r) (rest2 ++ s) same.1 inner in
+    let next = rest_once others others2 rest rest2 r s behind behind2 last in
+    (text_is ∙ ap (λ g. g ++ (here ++ others)) once.0 ∙ ap (λ h. gap2 ++ (h ++ others)) same.0 ∙ ap (λ o. gap2 ++ (here2 ++ o)) next.0 ∙ sym text_is2,
+     run_are ∙ ap (λ g. g ++ (unit ++ rest)) once.0 ∙ ap (λ h. gap2 ++ (h ++ rest)) same.1 ∙ ap (λ o. gap2 ++ (unit2 ++ o)) next.1 ∙ sym run_are2)
+
+units_once : (t u x y r s : List ℕ) → IsUnits t x → IsUnits u y → x ++ r ≡ y ++ s → (t ≡ u) × (x ≡ y)
+units_once t u x y r s a b e =
+    let ex : x ++ r ≡ a.unit ++ (a.rest ++ r) = ap (λ t. t ++ r) a.are ∙ append_assoc a.unit a.rest r in
+    let ey : y ++ s ≡ b.unit ++ (b.rest ++ s) = ap (λ t. t ++ s) b.are ∙ append_assoc b.unit b.rest s in
+    let whole = sym ex ∙ e ∙ ey in
+    let same = unit_once a.here b.here a.unit b.unit (a.rest ++ r) (b.rest ++ s) a.is b.is whole in
+    let next = rest_once a.others b.others a.rest b.rest r s a.behind b.behind (behind_same a.unit b.unit (a.rest ++ r) (b.rest ++ s) same.1 whole) in
+    (a.text_is ∙ ap (λ h. h ++ a.others) same.0 ∙ ap (λ o. b.here ++ o) next.0 ∙ sym b.text_is, a.are ∙ ap (λ h. h ++ a.rest) same.1 ∙ ap (λ o. b.unit ++ o) next.1 ∙ sym b.are)
+
+less_unit : (t x r s : List ℕ) → IsUnits t x → 60 ∷ r ≡ x ++ s → ⊥
+less_unit t x r s u e =
+    let first = units_byte t x u in
+    let whole : 60 ∷ r ≡ first.0 ∷ (first.1 ++ s) = e ∙ ap (λ t. t ++ s) first.2 in
+    let head : 60 ≡ first.0 = cc in
+    false≢true (sym first.4 ∙ rw (sym head) refl)
+
+begun_once : (t u x y r s : List ℕ) → IsBegun t x → IsBegun u y → x ++ r ≡ y ++ s → (t ≡ u) × (x ≡ y)
+begun_once t u x y r s (inl a) (inl b) e = (a.0 ∙ sym b.0, a.1 ∙ sym b.1)
+begun_once t u x y r s (inl a) (inr b) e = absurd (less_unit u y r s b (ap (λ t. t ++ r) (sym a.1) ∙ e))
+begun_once t u x y r s (inr a) (inl b) e = absurd (less_unit t x s r a (ap (λ t. t ++ s) (sym b.1) ∙ sym e))
+begun_once t u x y r s (inr a) (inr b) e = units_once t u x y r s a b e
+
+begun_outside : (t x : List ℕ) → IsBegun t x → BeginsOutside is_white x
+begun_outside t x b = dark_outside x (dark_of_begun t x b)
+
+-- each text token spells one text, and none begins another
+pub text_once : (t u x y r s : List ℕ) → IsText t x → IsText u y → x ++ r ≡ y ++ s → (t ≡ u) × (x ≡ y)
+text_once t u x y r s a b e =
+    let oa = begun_outside t a.back a.second in
+    let ob = begun_outside u b.back b.second in
+    let ex : x ++ r ≡ a.front ++ (a.back ++ r) = ap (λ t. t ++ r) a.are ∙ append_assoc a.front a.back r in
+    let ey : y ++ s ≡ b.front ++ (b.back ++ s) = ap (λ t. t ++ s) b.are ∙ append_assoc b.front b.back s in
+    let whole = sym ex ∙ e ∙ ey in
+    let fx : a.front ++ (a.back ++ r) ≡ a.front ++ oa.0 ∷ (oa.1 ++ r) = ap (λ t. a.front ++ (t ++ r)) oa.2 in
+    let fy : b.front ++ (b.back ++ s) ≡ b.front ++ ob.0 ∷ (ob.1 ++ s) = ap (λ t. b.front ++ (t ++ s)) ob.2 in
+    let once = run_once is_white a.front b.front oa.0 ob.0 (oa.1 ++ r) (ob.1 ++ s) a.first b.first oa.3 ob.3 (sym fx ∙ whole ∙ fy) in
+    let same = begun_once t u a.back b.back r s a.second b.second (behind_same a.front b.front (a.back ++ r) (b.back ++ s) once.0 whole) in
+    (same.0, a.are ∙ ap (λ f. f ++ a.back) once.0 ∙ ap (λ k. b.front ++ k) same.1 ∙ sym b.are)
+
+pub free_text : IsPrefixFree IsSomeText
+free_text x y r s a b e = (text_once a.0 b.0 x y r s a.1 b.1 e).1

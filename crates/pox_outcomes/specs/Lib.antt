@@ -4,3 +4,4 @@ pub mod Markup
 pub mod Characters
 pub mod References
 pub mod Texts
+pub mod Leaves

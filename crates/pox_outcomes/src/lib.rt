@@ -2,6 +2,7 @@
 #![tactic(auto)]
 
 mod characters;
+mod leaves;
 mod markup;
 mod references;
 mod stops;
