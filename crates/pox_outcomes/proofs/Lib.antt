@@ -9,3 +9,4 @@ pub mod CarriedLemmas
 pub mod TextLemmas
 pub mod Utf8Lemmas
 pub mod LeafLemmas
+pub mod AttributeLemmas

@@ -171,7 +171,7 @@ by_stops P bytes n here first s = record {
   apart = λ p q r d e. s.apart p q r d.character e;
 }
 
-by_apart : (P : ℕ → Bool) (bytes p q r : List ℕ) → begins P bytes ≡ false → begins P (p ++ q) ≡ true → bytes ≡ p ++ r → (length bytes ≤ length r) × (q ≢ [])
+pub by_apart : (P : ℕ → Bool) (bytes p q r : List ℕ) → begins P bytes ≡ false → begins P (p ++ q) ≡ true → bytes ≡ p ++ r → (length bytes ≤ length r) × (q ≢ [])
 by_apart P bytes [] [] r fails first e = absurd (false≢true first)
 by_apart P bytes [] (c ∷ q) r fails first e = (omega (arith, ap length e), no_cons (c ∷ q) c q refl)
 by_apart P [] (b ∷ p) q r fails first e = absurd (cc)

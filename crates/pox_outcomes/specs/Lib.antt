@@ -5,3 +5,4 @@ pub mod Characters
 pub mod References
 pub mod Texts
 pub mod Leaves
+pub mod Attributes

@@ -1,6 +1,7 @@
 //! Outcome envelopes.
 #![tactic(auto)]
 
+mod attributes;
 mod characters;
 mod leaves;
 mod markup;
