@@ -515,3 +515,43 @@ pub quote_is : (place : ℕ) → place < 2 → IsQuote (quote_at place)
 quote_is zero within = inl refl
 quote_is (suc zero) within = inr refl
 quote_is (suc (suc place)) within = absurd (omega arith)
+
+pub attributes_one : (y : List ℕ) × IsAttributes false y
+attributes_one = (codes " xmlns=''>", rest_one false)
+
+end_free : IsPrefixFree (IsMarkup (codes " >"))
+end_free = free_markup (codes " >") refl
+
+end_attribute : (seen : Bool) (x r white attribute others s : List ℕ) (name : List ℕ) → seen ≡ true → IsMarkup (codes " >") x → IsWhite white → IsAttribute name attribute → x ++ r ≡ white ++ (attribute ++ others) ++ s → ⊥
+end_attribute seen x r white attribute others s name is m w a e =
+    let end = dark_run seen x (ends is m) in
+    let out = begins_outside attribute (attribute_first name attribute a) (others ++ s) in
+    let t = m.second in
+    let ex : x ++ r ≡ m.front ++ 62 ∷ (t.back ++ r) = ap (λ k. k ++ r) (m.are ∙ ap (λ k. m.front ++ k) (t.are ∙ ap (λ k. k ++ t.back) t.first)) ∙ append_assoc m.front (62 ∷ t.back) r in
+    let ey : white ++ (attribute ++ others) ++ s ≡ white ++ out.0 ∷ out.1 = append_assoc white (attribute ++ others) s ∙ ap (λ k. white ++ k) (append_assoc attribute others s) ∙ ap (λ k. white ++ k) out.2 in
+    let once = run_once is_white m.front white 62 out.0 (t.back ++ r) out.1 m.first w refl out.3 (sym ex ∙ e ∙ ey) in
+    let first = first_byte is_name_start attribute (attribute_first name attribute a) in
+    let tails : 62 ∷ (t.back ++ r) ≡ first.0 ∷ (first.1 ++ (others ++ s)) = once.1 ∙ sym out.2 ∙ ap (λ k. k ++ (others ++ s)) first.2 in
+    let head : 62 ≡ first.0 = cc in
+    false≢true (ap is_name_start head ∙ first.3)
+
+-- no attributes of a tag begin others
+pub free_attributes : (seen : Bool) → IsPrefixFree (IsAttributes seen)
+free_attributes seen x y r s (ends is m) (ends is2 m2) e = end_free x y r s m m2 e
+free_attributes seen x y r s (ends is m) (goes white name attribute others w some_white a behind are) e =
+    absurd (end_attribute seen x r white attribute others s name is m w a (e ∙ ap (λ t. t ++ s) are))
+free_attributes seen x y r s (goes white name attribute others w some_white a behind are) (ends is m) e =
+    absurd (end_attribute seen y s white attribute others r name is m w a (sym e ∙ ap (λ t. t ++ r) are))
+free_attributes seen x y r s (goes white name attribute others w some_white a behind are) (goes white2 name2 attribute2 others2 w2 some_white2 a2 behind2 are2) e =
+    let oa = begins_outside attribute (attribute_first name attribute a) (others ++ r) in
+    let ob = begins_outside attribute2 (attribute_first name2 attribute2 a2) (others2 ++ s) in
+    let ex : x ++ r ≡ white ++ (attribute ++ (others ++ r)) = ap (λ t. t ++ r) are ∙ append_assoc white (attribute ++ others) r ∙ ap (λ t. white ++ t) (append_assoc attribute others r) in
+    let ey : y ++ s ≡ white2 ++ (attribute2 ++ (others2 ++ s)) = ap (λ t. t ++ s) are2 ∙ append_assoc white2 (attribute2 ++ others2) s ∙ ap (λ t. white2 ++ t) (append_assoc attribute2 others2 s) in
+    let whole = sym ex ∙ e ∙ ey in
+    let once = run_once is_white white white2 oa.0 ob.0 oa.1 ob.1 w w2 oa.3 ob.3 (ap (λ t. white ++ t) (sym oa.2) ∙ whole ∙ ap (λ t. white2 ++ t) ob.2) in
+    let inner = behind_same white white2 (attribute ++ (others ++ r)) (attribute2 ++ (others2 ++ s)) once.0 whole in
+    let same = attribute_once name name2 attribute attribute2 (others ++ r) (others2 ++ s) a a2 inner in
+    let last = behind_same attribute attribute2 (others ++ r) (others2 ++ s) same.1 inner in
+    let there : IsAttributes (seen || is_xmlns name2) others = subst (λ m. IsAttributes (seen || is_xmlns m) others) same.0 behind in
+    let next = free_attributes (seen || is_xmlns name2) others others2 r s there behind2 last in
+    are ∙ ap (λ w. w ++ (attribute ++ others)) once.0 ∙ ap (λ k. white2 ++ (k ++ others)) same.1 ∙ ap (λ k. white2 ++ (attribute2 ++ k)) next ∙ sym are2

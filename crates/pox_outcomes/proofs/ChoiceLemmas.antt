@@ -6,7 +6,7 @@ use Rattle.std.proofs.lemmas.List.{append_cancel_left, length-map}
 use Rattle.std.proofs.lemmas.Bool.Decides.{nat_tests}
 use Rattle.lti_outside.proofs.BoolLemmas.{and_split, or_split}
 use Rattle.pox_outcomes.specs.Language.{Then, IsFront, StopsAt, Reads, IsAmong}
-use Rattle.pox_outcomes.specs.Markup.{is_white, IsWhite, IsPiece, IsMarkup, IsOneOf, word_at, behind, begins_dark, is_plain}
+use Rattle.pox_outcomes.specs.Markup.{is_white, IsWhite, IsPiece, IsMarkup, IsOneOf, word_at, behind, begins_dark, is_plain, strip, first_of, rest_of, differ, are_words}
 use Rattle.pox_outcomes.proofs.LanguageLemmas.{After, Leads, after_leads, stops_either, stops_same, left-le, no_cons, compare, IsLonger, IsShorter}
 use Rattle.pox_outcomes.proofs.RunLemmas.{run_once}
 use Rattle.pox_outcomes.proofs.MarkupLemmas.{at_test, plain_space, plain_byte, plain_rest, outside_markup, markup_one, not_true, free_markup}
@@ -60,29 +60,9 @@ length-behind words = length-map words (λ (word : Bor (List ℕ)). word.now)
 
 -- ---- words that don't begin alike
 
--- without a space in front
-abbrev pub strip : List ℕ → List ℕ
-strip [] = []
-strip (b ∷ m) = cond (b == 32) m (b ∷ m)
-
 -- no string of one begins a string of the other, or the other way round
 abbrev pub IsApart : (List ℕ → Type 0) → (List ℕ → Type 0) → Type 0
 IsApart A B = (x y r s : List ℕ) → A x → B y → x ++ r ≡ y ++ s → ⊥
-
--- the first byte of the markup, and a byte that isn't there
-abbrev first_of : List ℕ → ℕ
-first_of [] = 0
-first_of (b ∷ m) = b
-
-abbrev rest_of : List ℕ → List ℕ
-rest_of [] = []
-rest_of (b ∷ m) = m
-
--- the markups differ at some byte, white bytes aside
-abbrev pub differ : List ℕ → List ℕ → Bool
-differ [] n = false
-differ (b ∷ m) n =
-    cond (b == 32) (differ m (strip n)) (not (length (strip n) == 0) && (not (b == first_of (strip n)) || differ m (rest_of (strip n))))
 
 apart_space : (b c : ℕ) (m n x y r s : List ℕ) → (b == 32) ≡ true → is_plain (b ∷ m) ≡ true → is_plain (c ∷ n) ≡ true → IsApart (IsMarkup m) (IsMarkup (strip (c ∷ n)))
     → IsMarkup (b ∷ m) x → IsMarkup (c ∷ n) y → x ++ r ≡ y ++ s → ⊥
@@ -167,18 +147,34 @@ strip_head (c ∷ n) plain =
 byte_differs : (b c : ℕ) → not (b == c) ≡ true → b ≡ c → ⊥
 byte_differs b c e same = grind (arith, nat_tests)
 
+-- the test at a byte
+abbrev test_at : Bool → ℕ → List ℕ → List ℕ → Bool
+test_at t b m n =
+    (not t && not (length (strip n) == 0) && not (b == first_of (strip n)))
+    || ((t || not (length (strip n) == 0)) && differ m (cond t (strip n) (rest_of (strip n))))
+
+differ_space : (b : ℕ) (m n : List ℕ) → (b == 32) ≡ true → differ (b ∷ m) n ≡ true → differ m (strip n) ≡ true
+differ_space b m n space differs = subst (λ (t : Bool). test_at t b m n ≡ true) space differs
+
+differ_byte : (b : ℕ) (m n : List ℕ) → (b == 32) ≡ false → differ (b ∷ m) n ≡ true → (not (length (strip n) == 0) ≡ true) × ((not (b == first_of (strip n)) ≡ true) ⊎ (differ m (rest_of (strip n)) ≡ true))
+differ_byte b m n other differs =
+    let L = not (length (strip n) == 0) in
+    let N = not (b == first_of (strip n)) in
+    let D = differ m (rest_of (strip n)) in
+    let at : ((L && N) || (L && D)) ≡ true = subst (λ (t : Bool). test_at t b m n ≡ true) other differs in
+    ⊎_elim (λ h. let both = and_split L N h in (both.0, inl both.1)) (λ h. let both = and_split L D h in (both.0, inr both.1)) (or_split (L && N) (L && D) at)
+
 -- markups that differ have no common front that is a string of one of them
 pub apart_markups : (m n : List ℕ) → differ m n ≡ true → is_plain m ≡ true → is_plain n ≡ true → IsApart (IsMarkup m) (IsMarkup n)
 apart_markups [] n differs plain other = absurd (false≢true differs)
 apart_markups (b ∷ m) n differs plain other =
     ⊎_elim
       (λ h.
-        let goes : differ m (strip n) ≡ true = subst (λ t. cond t (differ m (strip n)) (not (length (strip n) == 0) && (not (b == first_of (strip n)) || differ m (rest_of (strip n)))) ≡ true) h differs in
+        let goes : differ m (strip n) ≡ true = differ_space b m n h differs in
         let rest = apart_markups m (strip n) goes (plain_rest b m plain) (plain_strip n other) in
         behind_space b m n h plain other rest)
       (λ h.
-        let goes : (not (length (strip n) == 0) && (not (b == first_of (strip n)) || differ m (rest_of (strip n)))) ≡ true = subst (λ t. cond t (differ m (strip n)) (not (length (strip n) == 0) && (not (b == first_of (strip n)) || differ m (rest_of (strip n)))) ≡ true) h differs in
-        let both = and_split (not (length (strip n) == 0)) (not (b == first_of (strip n)) || differ m (rest_of (strip n))) goes in
+        let both = differ_byte b m n h differs in
         λ x y r s a d e.
           let front = front_byte b m x r h a in
           let whole : b ∷ (front.0 ++ r) ≡ y ++ s = ap (λ t. t ++ r) (sym front.1) ∙ e in
@@ -187,7 +183,7 @@ apart_markups (b ∷ m) n differs plain other =
           ⊎_elim
             (λ g. byte_differs b (first_of (strip n)) g head.0)
             (λ g. apart_markups m (rest_of (strip n)) g (plain_rest b m plain) (plain_rest_of (strip n) (plain_strip n other)) front.0 head.1 r s front.2 head.3 head.2)
-            (or_split (not (b == first_of (strip n))) (differ m (rest_of (strip n))) both.1))
+            both.1)
       (cases_Bool (b == 32))
   where
   behind_space : (b : ℕ) (m n : List ℕ) → (b == 32) ≡ true → is_plain (b ∷ m) ≡ true → is_plain n ≡ true → IsApart (IsMarkup m) (IsMarkup (strip n)) → IsApart (IsMarkup (b ∷ m)) (IsMarkup n)
@@ -195,11 +191,6 @@ apart_markups (b ∷ m) n differs plain other =
   behind_space b m (c ∷ n) space plain other apart = λ x y r s a d e. apart_space b c m n x y r s space plain other apart a d e
 
 -- ---- a choice, and what stands behind it
-
--- each pair of words differs
-abbrev pub are_words : List (List ℕ) → Bool
-are_words [] = true
-are_words (word ∷ words) = is_plain word && list_all (λ other. differ word other) words && are_words words
 
 -- strings of the first sets begin no other, and are of one set
 abbrev pub IsCode : (ℕ → List ℕ → Type 0) → ℕ → Type 0

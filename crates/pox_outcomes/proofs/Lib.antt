@@ -10,3 +10,5 @@ pub mod TextLemmas
 pub mod Utf8Lemmas
 pub mod LeafLemmas
 pub mod AttributeLemmas
+pub mod DeclarationLemmas
+pub mod RequestLemmas

@@ -6,3 +6,6 @@ pub mod References
 pub mod Texts
 pub mod Leaves
 pub mod Attributes
+pub mod Declaration
+pub mod Request
+pub mod BadRequest

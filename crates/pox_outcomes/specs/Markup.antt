@@ -51,3 +51,40 @@ IsOneOf words most = IsAmong (λ place. IsMarkup (word_at words place)) most
 -- the lists behind references
 abbrev pub behind : List (Bor (List ℕ)) → List (List ℕ)
 behind words = map (λ word. word.now) words
+
+-- without a space in front
+abbrev pub strip : List ℕ → List ℕ
+strip [] = []
+strip (b ∷ m) = if b == 32 then m else b ∷ m
+
+-- the first byte of the markup, or 0
+abbrev pub first_of : List ℕ → ℕ
+first_of [] = 0
+first_of (b ∷ m) = b
+
+abbrev pub rest_of : List ℕ → List ℕ
+rest_of [] = []
+rest_of (b ∷ m) = m
+
+-- the markups differ at some byte, white bytes aside
+abbrev pub differ : List ℕ → List ℕ → Bool
+differ [] n = false
+differ (b ∷ m) n =
+    (not (b == 32) && not (length (strip n) == 0) && not (b == first_of (strip n)))
+    || ((b == 32 || not (length (strip n) == 0)) && differ m (if b == 32 then strip n else rest_of (strip n)))
+
+-- each pair of words differs
+abbrev pub are_words : List (List ℕ) → Bool
+are_words [] = true
+are_words (word ∷ words) = is_plain word && list_all (λ other. differ word other) words && are_words words
+
+-- the text begins with no white byte
+abbrev pub BeginsDark : List ℕ → Type 0
+BeginsDark [] = Unit {0}
+BeginsDark (b ∷ text) = is_white b ≡ false
+
+-- a white byte stands before the rest
+pub record IsBehindWhite (bytes rest : List ℕ) : Type 0 where
+  pub white : ℕ
+  pub are : bytes ≡ white ∷ rest
+  pub is : is_white white ≡ true

@@ -75,13 +75,3 @@ pub fn one_of<'a>(bytes: &'a [u8], words: &[&[u8]]) -> Result<(usize, &'a [u8]),
     }
     Err(Left { left })
 }
-
-const ENDS: [&[u8]; 2] = [b" />", b" >"];
-
-pub fn trial(bytes: &[u8]) -> Result<(bool, &[u8]), Left>
-    ensures reads { IfOk result (λ found. Reads (IsMarkup (if found.0 then codes " />" else codes " >")) bytes.now found.1.now) }
-    ensures stops { IfErr result (IsStop (IsOneOf (codes " />" ∷ codes " >" ∷ []) 2) bytes.now) }
-{
-    let (place, rest) = one_of(bytes, &ENDS)?;
-    Ok((place == 0, rest))
-}
