@@ -12,3 +12,4 @@ pub mod LeafLemmas
 pub mod AttributeLemmas
 pub mod DeclarationLemmas
 pub mod RequestLemmas
+pub mod DocumentLemmas

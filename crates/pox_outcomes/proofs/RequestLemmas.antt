@@ -190,10 +190,10 @@ tail_once DeleteResult t u x y r s a b e = (a.0 ∙ sym b.0, free_markup delete_
 
 -- ---- the envelope
 
-abbrev Asks : ℕ → List ℕ → Type 0
+abbrev pub Asks : ℕ → List ℕ → Type 0
 Asks place = IsMarkup (word_at operations place)
 
-code_operations : IsCode Asks 3
+pub code_operations : IsCode Asks 3
 code_operations = code_words operations refl
 
 abbrev pub operation_of : ℕ → Operation
@@ -207,12 +207,12 @@ place_back (suc zero) within = refl
 place_back (suc (suc zero)) within = refl
 place_back (suc (suc (suc place))) within = absurd (omega arith)
 
-operation_back : (o : Operation) → operation_of (place_of o) ≡ o
+pub operation_back : (o : Operation) → operation_of (place_of o) ≡ o
 operation_back ReplaceResult = refl
 operation_back ReadResult = refl
 operation_back DeleteResult = refl
 
-place_within : (o : Operation) → place_of o < 3
+pub place_within : (o : Operation) → place_of o < 3
 place_within ReplaceResult = omega arith
 place_within ReadResult = omega arith
 place_within DeleteResult = omega arith
@@ -297,7 +297,7 @@ from_envelope o x h =
 same_envelope : (bytes : List ℕ) (n : ℕ) → StopsAt Whole bytes n → StopsAt (Any IsEnvelope) bytes n
 same_envelope bytes n s = stops_same bytes n to_envelope (λ x h. from_envelope h.0 x h.1) s
 
-root_words : are_words (codes "<?xml" ∷ root ∷ []) ≡ true
+pub root_words : are_words (codes "<?xml" ∷ root ∷ []) ≡ true
 root_words = refl
 
 module _ (bytes : List ℕ) where
