@@ -13,3 +13,4 @@ pub mod AttributeLemmas
 pub mod DeclarationLemmas
 pub mod RequestLemmas
 pub mod DocumentLemmas
+pub mod WritingLemmas

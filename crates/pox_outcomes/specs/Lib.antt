@@ -9,3 +9,5 @@ pub mod Attributes
 pub mod Declaration
 pub mod Request
 pub mod BadRequest
+pub mod Written
+pub mod Refusal

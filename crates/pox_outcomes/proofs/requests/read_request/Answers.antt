@@ -1,7 +1,8 @@
 use Rattle.std.proofs.Common.{◌≡◌, ◌++◌, ◌-◌, ◌==◌, ◌≤◌, ℕ, List, Bool, true, false, length, sym, ap, ◌∙◌, subst, refl}
 use Rattle.pox_outcomes.specs.Language.{StopsAt, Any}
 use Rattle.pox_outcomes.specs.Markup.{is_white, after_white}
-use Rattle.pox_outcomes.specs.Request.{EnvelopeOf}
+use Rattle.pox_outcomes.specs.Request.{EnvelopeOf, IsEnvelope}
+use Rattle.pox_outcomes.specs.Stops.{IsHalt}
 use Rattle.pox_outcomes.specs.BadRequest.{IsBadAt}
 use Rattle.pox_outcomes.specs.declared.outcome.Outcome.{Outcome}
 use Rattle.pox_outcomes.proofs.MarkupLemmas.{white_of}
@@ -45,7 +46,16 @@ returns-else-not-is_empty-clause-only c = λ o d.
     document_once c.args.bytes.now c.in-Ok.outcome o good d
 
 pub returns-in-Err-Stopped-clause-bad : goal.returns-in-Err-Stopped-clause-bad
-returns-in-Err-Stopped-clause-bad c = ?
+returns-in-Err-Stopped-clause-bad c =
+    let bytes = c.args.bytes.now in
+    let left = c.in-Err-Stopped.stop.left in
+    let stop : StopsAt (Any IsEnvelope) bytes left = subst (IsHalt (Any IsEnvelope) bytes) c.in-Err-Stopped.field-0-is c.in-Err-Stopped.ensures.stops in
+    bad_envelope bytes left (length bytes - left) refl stop
 
 pub returns-in-Err-Stopped-clause-only : goal.returns-in-Err-Stopped-clause-only
-returns-in-Err-Stopped-clause-only c = ?
+returns-in-Err-Stopped-clause-only c = λ o d.
+    let bytes = c.args.bytes.now in
+    let left = c.in-Err-Stopped.stop.left in
+    let stop : StopsAt (Any IsEnvelope) bytes left = subst (IsHalt (Any IsEnvelope) bytes) c.in-Err-Stopped.field-0-is c.in-Err-Stopped.ensures.stops in
+    let bad = bad_envelope bytes left (length bytes - left) refl stop in
+    absurd (bad.none o d)
