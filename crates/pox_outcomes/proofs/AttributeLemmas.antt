@@ -1,20 +1,19 @@
 -- The attributes of the root element.
-use Rattle.std.proofs.Common.{◌≡◌, ◌≢◌, ℕ, zero, suc, ◌+◌, ◌-◌, ◌<◌, ◌≤◌, ◌⊎◌, inl, inr, ⊎_elim, Bool, true, false, cond, not, ◌&&◌, ◌||◌, ◌==◌, List, [], ◌∷◌, ◌++◌, length, append_assoc, append-nil, refl, sym, ap, ◌∙◌, subst, arith, length-append, codes}
+use Rattle.std.proofs.Common.{◌≡◌, ◌≢◌, ℕ, zero, suc, ◌<◌, ◌≤◌, ◌⊎◌, inl, inr, ⊎_elim, Bool, true, false, ◌||◌, List, [], ◌∷◌, ◌++◌, length, append_assoc, append-nil, refl, sym, ap, ◌∙◌, subst, arith, length-append, codes}
 use Rattle.std.specs.List.{list_all}
-use Rattle.std.proofs.lemmas.Bool.{false≢true, cases_Bool}
+use Rattle.std.proofs.lemmas.Bool.{false≢true}
 use Rattle.std.proofs.lemmas.Bool.Decides.{nat_tests}
-use Rattle.std.proofs.lemmas.List.{append_cancel_left}
-use Rattle.lti_outside.proofs.BoolLemmas.{and_split, or_split}
+use Rattle.lti_outside.proofs.BoolLemmas.{and_split}
 use Rattle.pox_outcomes.specs.Language.{Then, ◌▸◌, StopsAt, Reads, IsAmong, Any}
-use Rattle.pox_outcomes.specs.Markup.{is_white, IsWhite, IsMarkup, word_at, BeginsOtherwise, after_white}
-use Rattle.pox_outcomes.specs.Characters.{IsCharacter, IsCharacterBy, begins}
+use Rattle.pox_outcomes.specs.Markup.{is_white, IsWhite, IsMarkup, word_at, BeginsOtherwise}
+use Rattle.pox_outcomes.specs.Characters.{IsCharacterBy, begins}
 use Rattle.pox_outcomes.specs.Attributes.{is_name_start, is_name_byte, after_name, IsName, is_value_byte, IsValue, closes, holds, quotes, quote_at, IsQuoted, IsAttribute, is_xmlns, IsAttributes, ends, goes, ReadsAttribute}
-use Rattle.pox_outcomes.proofs.LanguageLemmas.{IsPrefixFree, IsElsewhere, After, Leads, after_leads, leads_then, leads_same, leads_first, stops_here, stops_beside, stops_same, left-le, no_cons, compare}
+use Rattle.pox_outcomes.proofs.LanguageLemmas.{IsPrefixFree, IsElsewhere, After, Leads, after_leads, leads_then, leads_first, stops_here, stops_beside, stops_same, no_cons, compare}
 use Rattle.pox_outcomes.proofs.RunLemmas.{IsRun, IsOutside, BeginsOutside, run_once, leads_run}
-use Rattle.pox_outcomes.proofs.MarkupLemmas.{not_true, White, white_of, markup_one, free_markup, outside_markup}
-use Rattle.pox_outcomes.proofs.ChoiceLemmas.{IsCode, IsChoice, code_words, leads_choice, stops_choice}
+use Rattle.pox_outcomes.proofs.MarkupLemmas.{free_markup}
+use Rattle.pox_outcomes.proofs.ChoiceLemmas.{IsCode, code_words, leads_choice, stops_choice}
 use Rattle.pox_outcomes.proofs.CharacterLemmas.{free_character}
-use Rattle.pox_outcomes.proofs.TextLemmas.{by_apart, by_stops, by_fails, by_reads, behind_same}
+use Rattle.pox_outcomes.proofs.TextLemmas.{by_apart, behind_same}
 
 abbrev pub IsQuote : ℕ → Type 0
 IsQuote quote = (quote ≡ 34) ⊎ (quote ≡ 39)
@@ -77,7 +76,7 @@ elsewhere_byte b (d ∷ bytes) (c ∷ p) q r t other e is = absurd (other cc)
 pub value_stops : (quote : ℕ) (rest : List ℕ) (n : ℕ) → BeginsOtherwise quote rest → StopsAt (IsCharacterBy (is_value_byte quote)) rest n → StopsAt (IsValue quote) rest n
 value_stops quote rest n other s =
     stops_same rest n (to_value quote) (from_value quote)
-      (stops_beside rest n (λ p q r d e. elsewhere_byte quote rest p q r [] other d e) (stops_here rest n (quote ∷ []) (closes refl) s))
+    (stops_beside rest n (λ p q r d e. elsewhere_byte quote rest p q r [] other d e) (stops_here rest n (quote ∷ []) (closes refl) s))
 
 pub free_value : (quote : ℕ) (x y r s : List ℕ) → IsValue quote x → IsValue quote y → x ++ r ≡ y ++ s → x ≡ y
 free_value quote x y r s (closes is) (closes is2) e = is ∙ sym is2
@@ -164,7 +163,7 @@ assigned_outside x a =
     let m = a.first in
     let rest = m.second in
     equals_outside m.front (rest.back ++ a.back) x m.first
-      (a.are ∙ ap (λ t. t ++ a.back) (m.are ∙ ap (λ t. m.front ++ t) (rest.are ∙ ap (λ t. t ++ rest.back) rest.first)) ∙ append_assoc m.front (61 ∷ rest.back) a.back)
+    (a.are ∙ ap (λ t. t ++ a.back) (m.are ∙ ap (λ t. m.front ++ t) (rest.are ∙ ap (λ t. t ++ rest.back) rest.first)) ∙ append_assoc m.front (61 ∷ rest.back) a.back)
 
 abbrev Whole : List ℕ → Type 0
 Whole = IsStart ▸ IsRun is_name_byte ▸ IsAssigned
@@ -173,13 +172,15 @@ to_attribute : (x : List ℕ) → Whole x → Any IsAttribute x
 to_attribute x h =
     let run = h.second in
     let b = h.first.0 in
-    let both : list_all is_name_byte (b ∷ run.front) ≡ true = rw (start_byte b h.first.2, run.first) refl in
-    (b ∷ run.front, record {
-      rest = run.back;
-      are = h.are ∙ ap (λ t. t ++ h.back) h.first.1 ∙ ap (λ t. b ∷ t) run.are;
-      name_is = record { start = h.first.2; bytes = both };
-      value = run.second;
-    })
+    let both : list_all is_name_byte (b ∷ run.front) ≡ true = rw (start_byte b h.first.2, run.first) refl in (
+      b ∷ run.front,
+      record {
+        rest = run.back;
+        are = h.are ∙ ap (λ t. t ++ h.back) h.first.1 ∙ ap (λ t. b ∷ t) run.are;
+        name_is = record { start = h.first.2; bytes = both };
+        value = run.second;
+      },
+    )
 
 from_named : (name x : List ℕ) (a : IsAttribute name x) → Whole x
 from_named [] x a = absurd (false≢true a.name_is.start)
@@ -361,15 +362,15 @@ attribute_part seen dark n s = record {
   left_is = s.left_is;
   begins = (s.begins.0 ++ codes " xmlns=''>", (s.begins.1.0, record { front = s.front ++ s.begins.0; back = codes " xmlns=''>"; are = sym (append_assoc s.front s.begins.0 (codes " xmlns=''>")); first = s.begins.1.1; second = rest_one (seen || is_xmlns s.begins.1.0) }));
   apart = λ p q r d e.
-    let t = d.1 in
-    ⊎_elim
+      let t = d.1 in
+      ⊎_elim
       (λ h.
-        let none : Any IsAttribute (t.front ++ []) = subst (Any IsAttribute) (sym (append-nil t.front)) (d.0, t.first) in
-        let there : dark ≡ t.front ++ (h.0 ++ r) = e ∙ ap (λ t. t ++ r) h.1 ∙ append_assoc t.front h.0 r in
-        absurd ((s.apart t.front [] (h.0 ++ r) none there).1 refl))
+      let none : Any IsAttribute (t.front ++ []) = subst (Any IsAttribute) (sym (append-nil t.front)) (d.0, t.first) in
+      let there : dark ≡ t.front ++ (h.0 ++ r) = e ∙ ap (λ t. t ++ r) h.1 ∙ append_assoc t.front h.0 r in
+      absurd ((s.apart t.front [] (h.0 ++ r) none there).1 refl))
       (λ h.
-        let far = s.apart p (h.0 ∷ h.1) r (subst (Any IsAttribute) h.2 (d.0, t.first)) e in
-        (far.0, no_cons q h.0 (h.1 ++ t.back) h.3))
+      let far = s.apart p (h.0 ∷ h.1) r (subst (Any IsAttribute) h.2 (d.0, t.first)) e in
+      (far.0, no_cons q h.0 (h.1 ++ t.back) h.3))
       (compare p t.front q t.back t.are);
 }
 
@@ -385,8 +386,11 @@ attributes_stop seen rest white dark n are is some_white outside going s =
       rest = s.rest;
       are = are ∙ ap (λ t. white ++ t) s.are ∙ sym (append_assoc white s.front s.rest);
       left_is = s.left_is;
-      begins = (s.begins.0 ++ codes " xmlns=''>", goes white s.begins.1.0 (s.front ++ s.begins.0) (codes " xmlns=''>") is some_white s.begins.1.1 (rest_one (seen || is_xmlns s.begins.1.0))
-        (append_assoc white s.front (s.begins.0 ++ codes " xmlns=''>") ∙ ap (λ t. white ++ t) (sym (append_assoc s.front s.begins.0 (codes " xmlns=''>")))));
+      begins = (
+        s.begins.0 ++ codes " xmlns=''>",
+        goes white s.begins.1.0 (s.front ++ s.begins.0) (codes " xmlns=''>") is some_white s.begins.1.1 (rest_one (seen || is_xmlns s.begins.1.0))
+            (append_assoc white s.front (s.begins.0 ++ codes " xmlns=''>") ∙ ap (λ t. white ++ t) (sym (append_assoc s.front s.begins.0 (codes " xmlns=''>")))),
+      );
       apart = λ p q r d e. run.apart p q r (dark_run seen (p ++ q) d) e;
     }
 
@@ -420,8 +424,11 @@ attributes_behind seen rest white dark behind n namespace are is some_white outs
       rest = there.rest;
       are = are ∙ ap (λ t. white ++ t) (a.are ∙ ap (λ t. a.attribute ++ t) there.are ∙ sym (append_assoc a.attribute there.front there.rest)) ∙ sym (append_assoc white (a.attribute ++ there.front) there.rest);
       left_is = there.left_is;
-      begins = (there.begins.0, goes white a.name a.attribute (there.front ++ there.begins.0) is some_white a.is there.begins.1
-        (append_assoc white (a.attribute ++ there.front) there.begins.0 ∙ ap (λ t. white ++ t) (append_assoc a.attribute there.front there.begins.0)));
+      begins = (
+        there.begins.0,
+        goes white a.name a.attribute (there.front ++ there.begins.0) is some_white a.is there.begins.1
+            (append_assoc white (a.attribute ++ there.front) there.begins.0 ∙ ap (λ t. white ++ t) (append_assoc a.attribute there.front there.begins.0)),
+      );
       apart = λ p q r d e. run.apart p q r (dark_run seen (p ++ q) d) e;
     }
 
@@ -481,8 +488,8 @@ along_more bytes seen namespace rest white dark behind along are is some_white o
   front = along.front ++ (white ++ a.attribute);
   are = along.are ∙ ap (λ t. along.front ++ t) (are ∙ ap (λ t. white ++ t) a.are ∙ sym (append_assoc white a.attribute behind)) ∙ sym (append_assoc along.front (white ++ a.attribute) behind);
   into = λ y b.
-    let there : IsAttributes (seen || is_xmlns a.name) y = subst (λ t. IsAttributes (seen || t) y) a.namespace_is b in
-    subst (IsAttributes false) (ap (λ t. along.front ++ t) (sym (append_assoc white a.attribute y)) ∙ sym (append_assoc along.front (white ++ a.attribute) y))
+      let there : IsAttributes (seen || is_xmlns a.name) y = subst (λ t. IsAttributes (seen || t) y) a.namespace_is b in
+      subst (IsAttributes false) (ap (λ t. along.front ++ t) (sym (append_assoc white a.attribute y)) ∙ sym (append_assoc along.front (white ++ a.attribute) y))
       (along.into (white ++ (a.attribute ++ y)) (goes white a.name a.attribute y is some_white a.is there refl));
   stops = λ n s. along.stops n (attributes_behind seen rest white dark behind n namespace are is some_white outside a s);
 }

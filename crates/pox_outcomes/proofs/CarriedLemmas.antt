@@ -1,8 +1,7 @@
 -- Errors that are handed on.
 use Rattle.std.proofs.Common.{◌≡◌, ℕ, List, Result, Ok, Err, IfErr, IsErrAnd, sym, subst}
 use Rattle.pox_outcomes.specs.Language.{StopsAt}
-use Rattle.pox_outcomes.specs.Stops.{IsStop, IsHalt}
-use Rattle.pox_outcomes.specs.declared.stops.Left.{Left}
+use Rattle.pox_outcomes.specs.Stops.{IsHalt}
 use Rattle.pox_outcomes.specs.declared.stops.Halt.{Halt}
 use Rattle.pox_outcomes.specs.declared.stops.Halt.TheVariants.{Stopped, NoMemory}
 

@@ -1,11 +1,11 @@
 -- Characters, byte by byte.
-use Rattle.std.proofs.Common.{◌≡◌, ◌≢◌, ℕ, zero, suc, Bor, ◌+◌, ◌<◌, ◌≤◌, ◌⊎◌, inl, inr, ⊎_elim, Bool, true, false, cond, not, ◌&&◌, ◌||◌, ◌==◌, nat_lt, List, [], ◌∷◌, ◌++◌, length, get_or, drop, append_assoc, append-nil, refl, sym, ap, ◌∙◌, subst, arith, length-append, drop-cons, add-one}
+use Rattle.std.proofs.Common.{◌≡◌, ◌≢◌, ℕ, zero, suc, Bor, ◌+◌, ◌<◌, ◌≤◌, ⊎_elim, Bool, true, false, ◌&&◌, ◌||◌, nat_lt, List, [], ◌∷◌, ◌++◌, length, get_or, drop, append-nil, refl, sym, ap, ◌∙◌, subst, arith, drop-cons, add-one}
 use Rattle.std.proofs.lemmas.List.{drop_all}
 use Rattle.std.proofs.lemmas.Bool.{false≢true}
 use Rattle.std.proofs.lemmas.Bool.Decides.{nat_tests}
 use Rattle.std.specs.List.{list_all}
 use Rattle.lti_outside.proofs.BoolLemmas.{and_split, or_split}
-use Rattle.pox_outcomes.specs.Language.{Then, StopsAt, Reads, IsAmong}
+use Rattle.pox_outcomes.specs.Language.{StopsAt, Reads}
 use Rattle.pox_outcomes.specs.Characters.{is_within, IsByteIn, IsRow, row_at, rows, IsCharacter, behind, BeginsBeside, are_ranges}
 use Rattle.pox_outcomes.proofs.LanguageLemmas.{IsPrefixFree, Leads, leads_first, leads_then, leads_same, no_cons}
 
@@ -88,16 +88,16 @@ going_stops row bytes rest at within fails going =
     let step = at_step row at within in
     going.leads.stops (length rest) (subst (λ t. StopsAt (IsRow t) rest (length rest)) (sym step) (stops_range range m rest (subst (λ t. are_ranges t ≡ true) step going.are) fails))
 
-pub ranges_at : (rows : List (List (ℕ × ℕ))) (at : ℕ) → list_all are_ranges rows ≡ true → are_ranges (row_at rows at) ≡ true
+pub ranges_at : (table : List (List (ℕ × ℕ))) (at : ℕ) → list_all are_ranges table ≡ true → are_ranges (row_at table at) ≡ true
 ranges_at [] at all = refl
-ranges_at (row ∷ rows) zero all = (and_split (are_ranges row) (list_all are_ranges rows) all).0
-ranges_at (row ∷ rows) (suc at) all = ranges_at rows at (and_split (are_ranges row) (list_all are_ranges rows) all).1
+ranges_at (row ∷ table) zero all = (and_split (are_ranges row) (list_all are_ranges table) all).0
+ranges_at (row ∷ table) (suc at) all = ranges_at table at (and_split (are_ranges row) (list_all are_ranges table) all).1
 
 -- the row behind the reference at a place
-pub behind_at : (rows : List (Bor (List (ℕ × ℕ)))) (at : ℕ) → (get_or rows at (record { ref_ptr = (0, 0); now = [] })).now ≡ row_at (behind rows) at
+pub behind_at : (table : List (Bor (List (ℕ × ℕ)))) (at : ℕ) → (get_or table at (record { ref_ptr = (0, 0); now = [] })).now ≡ row_at (behind table) at
 behind_at [] at = refl
-behind_at (row ∷ rows) zero = refl
-behind_at (row ∷ rows) (suc at) = behind_at rows at
+behind_at (row ∷ table) zero = refl
+behind_at (row ∷ table) (suc at) = behind_at table at
 
 -- ---- rows that don't begin alike
 
@@ -123,8 +123,8 @@ apart_rows (p ∷ m) (q ∷ n) differs x y r s a d e =
     let head : a.first.0 ≡ d.first.0 = cc in
     let tails : a.back ++ r ≡ d.back ++ s = cc in
     ⊎_elim (λ h. not_both p q d.first.0 h (subst (λ (b : ℕ). is_within p b ≡ true) head a.first.2) d.first.2)
-      (λ h. apart_rows m n h a.back d.back r s a.second d.second tails)
-      (or_split (disjoint p q) (rows_differ m n) differs)
+    (λ h. apart_rows m n h a.back d.back r s a.second d.second tails)
+    (or_split (disjoint p q) (rows_differ m n) differs)
 
 abbrev are_rows : List (List (ℕ × ℕ)) → Bool
 are_rows [] = true

@@ -1,13 +1,13 @@
 -- One of several words.
-use Rattle.std.proofs.Common.{◌≡◌, ◌≢◌, ℕ, zero, suc, Bor, ◌+◌, ◌<◌, ◌≤◌, ◌⊎◌, inl, inr, ⊎_elim, Bool, true, false, cond, not, ◌&&◌, ◌||◌, ◌==◌, List, [], ◌∷◌, ◌++◌, length, get_or, min, append_assoc, append-nil, refl, sym, ap, ◌∙◌, subst, arith, length-append}
+use Rattle.std.proofs.Common.{◌≡◌, ℕ, zero, suc, Bor, ◌+◌, ◌<◌, ◌≤◌, ◌⊎◌, inl, inr, ⊎_elim, Bool, true, false, cond, not, ◌&&◌, ◌||◌, ◌==◌, List, [], ◌∷◌, ◌++◌, length, get_or, min, append_assoc, append-nil, refl, sym, ap, ◌∙◌, subst, arith}
 use Rattle.std.specs.List.{list_all}
 use Rattle.std.proofs.lemmas.Bool.{false≢true, cases_Bool, cases_lt}
-use Rattle.std.proofs.lemmas.List.{append_cancel_left, length-map}
+use Rattle.std.proofs.lemmas.List.{length-map}
 use Rattle.std.proofs.lemmas.Bool.Decides.{nat_tests}
 use Rattle.lti_outside.proofs.BoolLemmas.{and_split, or_split}
-use Rattle.pox_outcomes.specs.Language.{Then, IsFront, StopsAt, Reads, IsAmong}
-use Rattle.pox_outcomes.specs.Markup.{is_white, IsWhite, IsPiece, IsMarkup, IsOneOf, word_at, behind, begins_dark, is_plain, strip, first_of, rest_of, differ, are_words}
-use Rattle.pox_outcomes.proofs.LanguageLemmas.{After, Leads, after_leads, stops_either, stops_same, left-le, no_cons, compare, IsLonger, IsShorter}
+use Rattle.pox_outcomes.specs.Language.{Then, StopsAt, Reads, IsAmong}
+use Rattle.pox_outcomes.specs.Markup.{is_white, IsWhite, IsMarkup, word_at, behind, begins_dark, is_plain, strip, first_of, rest_of, differ, are_words}
+use Rattle.pox_outcomes.proofs.LanguageLemmas.{Leads, after_leads, stops_either, stops_same, left-le, no_cons, compare}
 use Rattle.pox_outcomes.proofs.RunLemmas.{run_once}
 use Rattle.pox_outcomes.proofs.MarkupLemmas.{at_test, plain_space, plain_byte, plain_rest, outside_markup, markup_one, not_true, free_markup}
 
@@ -36,7 +36,7 @@ tried_more A bytes at left n s (inl h) =
     let all : left ≡ length bytes = h.1 in
     let is : n ≡ min left n = omega arith in
     inr (subst (λ (k : ℕ). StopsAt (IsAmong A (at + 1)) bytes k) is
-      (stops_same bytes n (λ x m. one_more A at x (inr m)) (λ x m. ⊎_elim (λ (h : IsAmong A at x). absurd (omega (arith, h.1))) (λ h. h) (one_less A at x m)) s))
+    (stops_same bytes n (λ x m. one_more A at x (inr m)) (λ x m. ⊎_elim (λ (h : IsAmong A at x). absurd (omega (arith, h.1))) (λ h. h) (one_less A at x m)) s))
 tried_more A bytes at left n s (inr t) =
     inr (stops_same bytes (min left n) (λ x m. one_more A at x m) (λ x m. one_less A at x m) (stops_either bytes left n t s))
 
@@ -72,20 +72,20 @@ apart_space b c m n x y r s space plain other apart a d e =
     let ea : x ++ r ≡ a.front ++ oa.0 ∷ (oa.1 ++ r) = ap (λ t. t ++ r) (a.are ∙ ap (λ t. a.front ++ t) oa.2) ∙ append_assoc a.front (oa.0 ∷ oa.1) r in
     let back : oa.0 ∷ (oa.1 ++ r) ≡ a.back ++ r = ap (λ t. t ++ r) (sym oa.2) in
     ⊎_elim
-      (λ h.
-        let white_too : IsWhite d.front = subst (λ t. at_test t c d.front) h d.first in
-        let od = outside_markup n d.back (plain_space c n h other) d.second in
-        let ed : y ++ s ≡ d.front ++ od.0 ∷ (od.1 ++ s) = ap (λ t. t ++ s) (d.are ∙ ap (λ t. d.front ++ t) od.2) ∙ append_assoc d.front (od.0 ∷ od.1) s in
-        let once = run_once is_white a.front d.front oa.0 od.0 (oa.1 ++ r) (od.1 ++ s) white white_too oa.3 od.3 (sym ea ∙ e ∙ ed) in
-        let stripped : strip (c ∷ n) ≡ n = rw h refl in
-        apart a.back d.back r s a.second (subst (λ t. IsMarkup t d.back) (sym stripped) d.second) (sym back ∙ once.1 ∙ ap (λ t. t ++ s) (sym od.2)))
-      (λ h.
-        let byte : d.front ≡ c ∷ [] = subst (λ t. at_test t c d.front) h d.first in
-        let ed : y ++ s ≡ [] ++ c ∷ (d.back ++ s) = ap (λ t. t ++ s) (d.are ∙ ap (λ t. t ++ d.back) byte) in
-        let once = run_once is_white a.front [] oa.0 c (oa.1 ++ r) (d.back ++ s) white refl oa.3 (plain_byte c n h other) (sym ea ∙ e ∙ ed) in
-        let stripped : strip (c ∷ n) ≡ c ∷ n = rw h refl in
-        apart a.back y r s a.second (subst (λ t. IsMarkup t y) (sym stripped) d) (sym back ∙ once.1 ∙ sym ed))
-      (cases_Bool (c == 32))
+    (λ h.
+    let white_too : IsWhite d.front = subst (λ t. at_test t c d.front) h d.first in
+    let od = outside_markup n d.back (plain_space c n h other) d.second in
+    let ed : y ++ s ≡ d.front ++ od.0 ∷ (od.1 ++ s) = ap (λ t. t ++ s) (d.are ∙ ap (λ t. d.front ++ t) od.2) ∙ append_assoc d.front (od.0 ∷ od.1) s in
+    let once = run_once is_white a.front d.front oa.0 od.0 (oa.1 ++ r) (od.1 ++ s) white white_too oa.3 od.3 (sym ea ∙ e ∙ ed) in
+    let stripped : strip (c ∷ n) ≡ n = rw h refl in
+    apart a.back d.back r s a.second (subst (λ t. IsMarkup t d.back) (sym stripped) d.second) (sym back ∙ once.1 ∙ ap (λ t. t ++ s) (sym od.2)))
+    (λ h.
+    let byte : d.front ≡ c ∷ [] = subst (λ t. at_test t c d.front) h d.first in
+    let ed : y ++ s ≡ [] ++ c ∷ (d.back ++ s) = ap (λ t. t ++ s) (d.are ∙ ap (λ t. t ++ d.back) byte) in
+    let once = run_once is_white a.front [] oa.0 c (oa.1 ++ r) (d.back ++ s) white refl oa.3 (plain_byte c n h other) (sym ea ∙ e ∙ ed) in
+    let stripped : strip (c ∷ n) ≡ c ∷ n = rw h refl in
+    apart a.back y r s a.second (subst (λ t. IsMarkup t y) (sym stripped) d) (sym back ∙ once.1 ∙ sym ed))
+    (cases_Bool (c == 32))
 
 -- a byte stands in front of the string
 front_byte : (b : ℕ) (m x r : List ℕ) → (b == 32) ≡ false → IsMarkup (b ∷ m) x → (t : List ℕ) × (x ≡ b ∷ t) × IsMarkup m t
@@ -98,16 +98,16 @@ stripped_string : (n y s : List ℕ) (b : ℕ) (t : List ℕ) → is_plain n ≡
 stripped_string [] y s b t plain dark d e = d
 stripped_string (c ∷ n) y s b t plain dark d e =
     ⊎_elim
-      (λ h.
-        let white : IsWhite d.front = subst (λ t. at_test t c d.front) h d.first in
-        let od = outside_markup n d.back (plain_space c n h plain) d.second in
-        let ed : y ++ s ≡ d.front ++ od.0 ∷ (od.1 ++ s) = ap (λ t. t ++ s) (d.are ∙ ap (λ t. d.front ++ t) od.2) ∙ append_assoc d.front (od.0 ∷ od.1) s in
-        let once = run_once is_white [] d.front b od.0 t (od.1 ++ s) refl white dark od.3 (e ∙ ed) in
-        let stripped : strip (c ∷ n) ≡ n = rw h refl in
-        let same : d.back ≡ y = sym (d.are ∙ ap (λ t. t ++ d.back) (sym once.0)) in
-        subst (λ t. IsMarkup t y) (sym stripped) (subst (IsMarkup n) same d.second))
-      (λ h. let stripped : strip (c ∷ n) ≡ c ∷ n = rw h refl in subst (λ t. IsMarkup t y) (sym stripped) d)
-      (cases_Bool (c == 32))
+    (λ h.
+    let white : IsWhite d.front = subst (λ t. at_test t c d.front) h d.first in
+    let od = outside_markup n d.back (plain_space c n h plain) d.second in
+    let ed : y ++ s ≡ d.front ++ od.0 ∷ (od.1 ++ s) = ap (λ t. t ++ s) (d.are ∙ ap (λ t. d.front ++ t) od.2) ∙ append_assoc d.front (od.0 ∷ od.1) s in
+    let once = run_once is_white [] d.front b od.0 t (od.1 ++ s) refl white dark od.3 (e ∙ ed) in
+    let stripped : strip (c ∷ n) ≡ n = rw h refl in
+    let same : d.back ≡ y = sym (d.are ∙ ap (λ t. t ++ d.back) (sym once.0)) in
+    subst (λ t. IsMarkup t y) (sym stripped) (subst (IsMarkup n) same d.second))
+    (λ h. let stripped : strip (c ∷ n) ≡ c ∷ n = rw h refl in subst (λ t. IsMarkup t y) (sym stripped) d)
+    (cases_Bool (c == 32))
 
 -- the first byte of a stripped markup's string
 head_byte : (k y s : List ℕ) (b : ℕ) (t : List ℕ) → (length k == 0) ≡ false → (is_head : (first_of k == 32) ≡ false) → IsMarkup k y → b ∷ t ≡ y ++ s → (b ≡ first_of k) × (z : List ℕ) × (t ≡ z ++ s) × IsMarkup (rest_of k) z
@@ -123,9 +123,9 @@ plain_strip : (n : List ℕ) → is_plain n ≡ true → is_plain (strip n) ≡ 
 plain_strip [] plain = refl
 plain_strip (c ∷ n) plain =
     ⊎_elim
-      (λ h. let stripped : strip (c ∷ n) ≡ n = rw h refl in subst (λ t. is_plain t ≡ true) (sym stripped) (plain_rest c n plain))
-      (λ h. let stripped : strip (c ∷ n) ≡ c ∷ n = rw h refl in subst (λ t. is_plain t ≡ true) (sym stripped) plain)
-      (cases_Bool (c == 32))
+    (λ h. let stripped : strip (c ∷ n) ≡ n = rw h refl in subst (λ t. is_plain t ≡ true) (sym stripped) (plain_rest c n plain))
+    (λ h. let stripped : strip (c ∷ n) ≡ c ∷ n = rw h refl in subst (λ t. is_plain t ≡ true) (sym stripped) plain)
+    (cases_Bool (c == 32))
 
 plain_rest_of : (n : List ℕ) → is_plain n ≡ true → is_plain (rest_of n) ≡ true
 plain_rest_of [] plain = refl
@@ -140,9 +140,9 @@ strip_head : (n : List ℕ) → is_plain n ≡ true → (first_of (strip n) == 3
 strip_head [] plain = refl
 strip_head (c ∷ n) plain =
     ⊎_elim
-      (λ h. let stripped : strip (c ∷ n) ≡ n = rw h refl in subst (λ t. (first_of t == 32) ≡ false) (sym stripped) (dark_begin n (plain_space c n h plain)))
-      (λ h. let stripped : strip (c ∷ n) ≡ c ∷ n = rw h refl in subst (λ t. (first_of t == 32) ≡ false) (sym stripped) h)
-      (cases_Bool (c == 32))
+    (λ h. let stripped : strip (c ∷ n) ≡ n = rw h refl in subst (λ t. (first_of t == 32) ≡ false) (sym stripped) (dark_begin n (plain_space c n h plain)))
+    (λ h. let stripped : strip (c ∷ n) ≡ c ∷ n = rw h refl in subst (λ t. (first_of t == 32) ≡ false) (sym stripped) h)
+    (cases_Bool (c == 32))
 
 byte_differs : (b c : ℕ) → not (b == c) ≡ true → b ≡ c → ⊥
 byte_differs b c e same = grind (arith, nat_tests)
@@ -169,26 +169,26 @@ pub apart_markups : (m n : List ℕ) → differ m n ≡ true → is_plain m ≡ 
 apart_markups [] n differs plain other = absurd (false≢true differs)
 apart_markups (b ∷ m) n differs plain other =
     ⊎_elim
-      (λ h.
-        let goes : differ m (strip n) ≡ true = differ_space b m n h differs in
-        let rest = apart_markups m (strip n) goes (plain_rest b m plain) (plain_strip n other) in
-        behind_space b m n h plain other rest)
-      (λ h.
-        let both = differ_byte b m n h differs in
-        λ x y r s a d e.
-          let front = front_byte b m x r h a in
-          let whole : b ∷ (front.0 ++ r) ≡ y ++ s = ap (λ t. t ++ r) (sym front.1) ∙ e in
-          let there = stripped_string n y s b (front.0 ++ r) other (plain_byte b m h plain) d whole in
-          let head = head_byte (strip n) y s b (front.0 ++ r) (not_true (length (strip n) == 0) both.0) (strip_head n other) there whole in
-          ⊎_elim
-            (λ g. byte_differs b (first_of (strip n)) g head.0)
-            (λ g. apart_markups m (rest_of (strip n)) g (plain_rest b m plain) (plain_rest_of (strip n) (plain_strip n other)) front.0 head.1 r s front.2 head.3 head.2)
-            both.1)
-      (cases_Bool (b == 32))
+    (λ h.
+    let goes : differ m (strip n) ≡ true = differ_space b m n h differs in
+    let rest = apart_markups m (strip n) goes (plain_rest b m plain) (plain_strip n other) in
+    behind_space b m n h plain other rest)
+    (λ h.
+    let both = differ_byte b m n h differs in
+    λ x y r s a d e.
+    let front = front_byte b m x r h a in
+    let whole : b ∷ (front.0 ++ r) ≡ y ++ s = ap (λ t. t ++ r) (sym front.1) ∙ e in
+    let there = stripped_string n y s b (front.0 ++ r) other (plain_byte b m h plain) d whole in
+    let head = head_byte (strip n) y s b (front.0 ++ r) (not_true (length (strip n) == 0) both.0) (strip_head n other) there whole in
+    ⊎_elim
+    (λ g. byte_differs b (first_of (strip n)) g head.0)
+    (λ g. apart_markups m (rest_of (strip n)) g (plain_rest b m plain) (plain_rest_of (strip n) (plain_strip n other)) front.0 head.1 r s front.2 head.3 head.2)
+    both.1)
+    (cases_Bool (b == 32))
   where
-  behind_space : (b : ℕ) (m n : List ℕ) → (b == 32) ≡ true → is_plain (b ∷ m) ≡ true → is_plain n ≡ true → IsApart (IsMarkup m) (IsMarkup (strip n)) → IsApart (IsMarkup (b ∷ m)) (IsMarkup n)
-  behind_space b m [] space plain other apart = λ x y r s a d e. let one = markup_one m in apart one.0 [] [] one.0 one.1 refl (append-nil one.0)
-  behind_space b m (c ∷ n) space plain other apart = λ x y r s a d e. apart_space b c m n x y r s space plain other apart a d e
+    behind_space : (b : ℕ) (m n : List ℕ) → (b == 32) ≡ true → is_plain (b ∷ m) ≡ true → is_plain n ≡ true → IsApart (IsMarkup m) (IsMarkup (strip n)) → IsApart (IsMarkup (b ∷ m)) (IsMarkup n)
+    behind_space b m [] space plain other apart = λ x y r s a d e. let one = markup_one m in apart one.0 [] [] one.0 one.1 refl (append-nil one.0)
+    behind_space b m (c ∷ n) space plain other apart = λ x y r s a d e. apart_space b c m n x y r s space plain other apart a d e
 
 -- ---- a choice, and what stands behind it
 
@@ -239,10 +239,10 @@ pub leads_choice : (A B : ℕ → List ℕ → Type 0) (most place : ℕ) (bytes
 leads_choice A B most place bytes rest code within reads = after_leads bytes reads.front rest reads.are (record {
   into = λ y b. (place, within, record { front = reads.front; back = y; are = refl; first = reads.is; second = b });
   out = λ d r s l e.
-    let t = l.2 in
-    let e' : t.front ++ (t.back ++ r) ≡ reads.front ++ s = sym (append_assoc t.front t.back r) ∙ ap (λ t. t ++ r) (sym t.are) ∙ e in
-    let same = code l.0 place l.1 within t.front reads.front (t.back ++ r) s t.first reads.is e' in
-    (t.back, t.are ∙ ap (λ f. f ++ t.back) same.1, same_place B l.0 place t.back same.0 t.second);
+      let t = l.2 in
+      let e' : t.front ++ (t.back ++ r) ≡ reads.front ++ s = sym (append_assoc t.front t.back r) ∙ ap (λ t. t ++ r) (sym t.are) ∙ e in
+      let same = code l.0 place l.1 within t.front reads.front (t.back ++ r) s t.first reads.is e' in
+      (t.back, t.are ∙ ap (λ f. f ++ t.back) same.1, same_place B l.0 place t.back same.0 t.second);
 })
 
 -- a stop at the choice
@@ -257,14 +257,14 @@ stops_choice A B most bytes n one s =
       left_is = s.left_is;
       begins = (s.begins.0 ++ more.0, (found.0, found.1, record { front = s.front ++ s.begins.0; back = more.0; are = sym (append_assoc s.front s.begins.0 more.0); first = found.2; second = more.1 }));
       apart = λ p q r d e.
-        let t = d.2 in
-        ⊎_elim
+          let t = d.2 in
+          ⊎_elim
           (λ h.
-            let none : A d.0 (t.front ++ []) = subst (A d.0) (sym (append-nil t.front)) t.first in
-            let there : bytes ≡ t.front ++ (h.0 ++ r) = e ∙ ap (λ t. t ++ r) h.1 ∙ append_assoc t.front h.0 r in
-            absurd ((s.apart t.front [] (h.0 ++ r) (d.0, d.1, none) there).1 refl))
+          let none : A d.0 (t.front ++ []) = subst (A d.0) (sym (append-nil t.front)) t.first in
+          let there : bytes ≡ t.front ++ (h.0 ++ r) = e ∙ ap (λ t. t ++ r) h.1 ∙ append_assoc t.front h.0 r in
+          absurd ((s.apart t.front [] (h.0 ++ r) (d.0, d.1, none) there).1 refl))
           (λ h.
-            let far = s.apart p (h.0 ∷ h.1) r (d.0, d.1, subst (A d.0) h.2 t.first) e in
-            (far.0, no_cons q h.0 (h.1 ++ t.back) h.3))
+          let far = s.apart p (h.0 ∷ h.1) r (d.0, d.1, subst (A d.0) h.2 t.first) e in
+          (far.0, no_cons q h.0 (h.1 ++ t.back) h.3))
           (compare p t.front q t.back t.are);
     }

@@ -1,8 +1,8 @@
 -- The XML declaration, and the start of the root element.
-use Rattle.std.proofs.Common.{◌≡◌, ◌≢◌, ℕ, zero, suc, ◌+◌, ◌<◌, ◌≤◌, ◌⊎◌, inl, inr, ⊎_elim, Bool, true, false, not, ◌==◌, List, [], ◌∷◌, ◌++◌, length, MatchBool, append_assoc, append-nil, refl, sym, ap, ◌∙◌, subst, arith, codes}
-use Rattle.std.proofs.lemmas.Bool.{false≢true, cases_Bool}
+use Rattle.std.proofs.Common.{◌≡◌, ◌≢◌, ℕ, zero, suc, ◌<◌, ◌≤◌, ◌⊎◌, inl, inr, Bool, true, false, ◌==◌, List, [], ◌∷◌, ◌++◌, length, MatchBool, append_assoc, append-nil, refl, sym, ap, ◌∙◌, subst, arith, codes}
+use Rattle.std.proofs.lemmas.Bool.{false≢true}
 use Rattle.std.proofs.lemmas.Bool.Decides.{nat_tests}
-use Rattle.pox_outcomes.specs.Language.{Then, ◌▸◌, StopsAt, Reads, IsAmong}
+use Rattle.pox_outcomes.specs.Language.{Then, ◌▸◌, StopsAt, Reads}
 use Rattle.pox_outcomes.specs.Markup.{is_white, IsMarkup, IsOneOf, word_at, is_plain, are_words, BeginsDark, IsBehindWhite}
 use Rattle.pox_outcomes.specs.Declaration.{IsOneWhite, encodings, closings, IsClosing, IsEncoding, parts, IsPart, IsAfterVersion, versions, IsDeclaration, IsOpening}
 use Rattle.pox_outcomes.proofs.LanguageLemmas.{IsPrefixFree, Leads, after_leads, leads_first, stops_here, stops_beside, stops_same, no_cons, reads_then}
@@ -155,8 +155,8 @@ part_one (suc (suc place)) =
     let one : (suc (suc place) == 0) ≡ false = grind (arith, nat_tests) in
     let two : (suc (suc place) == 1) ≡ false = grind (arith, nat_tests) in
     ([], nothing (suc (suc place)) one two) where
-    nothing : (place : ℕ) → (place == 0) ≡ false → (place == 1) ≡ false → IsPart place []
-    nothing place one two = rw (one, two) refl
+      nothing : (place : ℕ) → (place == 0) ≡ false → (place == 1) ≡ false → IsPart place []
+      nothing place one two = rw (one, two) refl
 
 free_part : (place : ℕ) → IsPrefixFree (IsPart place)
 free_part zero = free_encoding (codes "\"") refl
@@ -166,8 +166,8 @@ free_part (suc (suc place)) = λ x y r s a b e.
     let two : (suc (suc place) == 1) ≡ false = grind (arith, nat_tests) in
     empty_part (suc (suc place)) x one two a ∙ sym (empty_part (suc (suc place)) y one two b)
   where
-  empty_part : (place : ℕ) (x : List ℕ) → (place == 0) ≡ false → (place == 1) ≡ false → IsPart place x → x ≡ []
-  empty_part place x one two h = rw (one, two) at h
+    empty_part : (place : ℕ) (x : List ℕ) → (place == 0) ≡ false → (place == 1) ≡ false → IsPart place x → x ≡ []
+    empty_part place x one two h = rw (one, two) at h
 
 abbrev Parts : List ℕ → Type 0
 Parts = IsChoice Begins 7 IsPart

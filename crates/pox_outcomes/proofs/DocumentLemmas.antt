@@ -1,20 +1,18 @@
 -- The bytes of a request as a whole.
-use Rattle.std.proofs.Common.{◌≡◌, ◌≢◌, ℕ, ◌+◌, ◌-◌, ◌<◌, ◌≤◌, ◌⊎◌, inl, inr, ⊎_elim, Bool, true, false, ◌==◌, List, [], ◌∷◌, ◌++◌, length, take, drop, append_assoc, append-nil, refl, sym, ap, ◌∙◌, subst, arith, length-append, codes}
-use Rattle.std.specs.List.{list_all}
+use Rattle.std.proofs.Common.{◌≡◌, ℕ, ◌-◌, ◌≤◌, ⊎_elim, true, false, ◌==◌, List, [], ◌∷◌, ◌++◌, length, take, drop, append_assoc, append-nil, refl, sym, ap, ◌∙◌, subst, arith, length-append, codes}
 use Rattle.std.proofs.lemmas.List.{take_at, take-append-drop, length-take-le, length-drop}
 use Rattle.std.proofs.lemmas.Bool.{false≢true}
 use Rattle.std.proofs.lemmas.Bool.Decides.{nat_tests}
-use Rattle.pox_outcomes.specs.Language.{Then, ◌▸◌, StopsAt, Reads, Any}
-use Rattle.pox_outcomes.specs.Markup.{is_white, IsWhite, IsMarkup, word_at, after_white}
+use Rattle.pox_outcomes.specs.Language.{◌▸◌, StopsAt, Reads, Any}
+use Rattle.pox_outcomes.specs.Markup.{is_white, IsWhite, IsMarkup, word_at}
 use Rattle.pox_outcomes.specs.Leaves.{IsLeaf}
 use Rattle.pox_outcomes.specs.Attributes.{IsAttributes}
-use Rattle.pox_outcomes.specs.Declaration.{IsOpening}
-use Rattle.pox_outcomes.specs.Request.{root, header, operations, place_of, IsTail, IsResult, IsEnvelope, EnvelopeOf}
-use Rattle.pox_outcomes.specs.BadRequest.{BeginsRequest, IsBadAt}
+use Rattle.pox_outcomes.specs.Request.{root, header, operations, place_of, IsResult, IsEnvelope, EnvelopeOf}
+use Rattle.pox_outcomes.specs.BadRequest.{IsBadAt}
 use Rattle.pox_outcomes.specs.declared.outcome.Operation.{Operation}
 use Rattle.pox_outcomes.specs.declared.outcome.Outcome.{Outcome}
 use Rattle.pox_outcomes.proofs.LanguageLemmas.{compare}
-use Rattle.pox_outcomes.proofs.RunLemmas.{IsOutside, run_front, run_no}
+use Rattle.pox_outcomes.proofs.RunLemmas.{IsOutside, run_no}
 use Rattle.pox_outcomes.proofs.LeafLemmas.{leaf_once, then_once, markup_once}
 use Rattle.pox_outcomes.proofs.DeclarationLemmas.{free_opening}
 use Rattle.pox_outcomes.proofs.AttributeLemmas.{free_attributes}
@@ -50,13 +48,13 @@ message_once o p x y r s a b e =
     let t = then_once x y r s (λ x y r s a b e. leaf_once (codes "/imsx_messageIdentifier >") o.message p.message x y r s refl a b e) (asked_once o p) a b e in
     (whole_same o p t.0 t.1.0 t.1.1 t.1.2, t.2)
   where
-  whole_same : (o p : Outcome) → o.message ≡ p.message → o.operation ≡ p.operation → o.sourced_id ≡ p.sourced_id → o.score_text ≡ p.score_text → o ≡ p
-  whole_same o p m k i t =
-      let one : o ≡ record o { message = p.message } = ap (λ v. record o { message = v }) m in
-      let two : record o { message = p.message } ≡ record o { message = p.message; operation = p.operation } = ap (λ v. record o { message = p.message; operation = v }) k in
-      let three : record o { message = p.message; operation = p.operation } ≡ record o { message = p.message; operation = p.operation; sourced_id = p.sourced_id } = ap (λ v. record o { message = p.message; operation = p.operation; sourced_id = v }) i in
-      let four : record o { message = p.message; operation = p.operation; sourced_id = p.sourced_id } ≡ p = ap (λ v. record o { message = p.message; operation = p.operation; sourced_id = p.sourced_id; score_text = v }) t in
-      one ∙ two ∙ three ∙ four
+    whole_same : (o p : Outcome) → o.message ≡ p.message → o.operation ≡ p.operation → o.sourced_id ≡ p.sourced_id → o.score_text ≡ p.score_text → o ≡ p
+    whole_same o p m k i t =
+        let one : o ≡ record o { message = p.message } = ap (λ v. record o { message = v }) m in
+        let two : record o { message = p.message } ≡ record o { message = p.message; operation = p.operation } = ap (λ v. record o { message = p.message; operation = v }) k in
+        let three : record o { message = p.message; operation = p.operation } ≡ record o { message = p.message; operation = p.operation; sourced_id = p.sourced_id } = ap (λ v. record o { message = p.message; operation = p.operation; sourced_id = v }) i in
+        let four : record o { message = p.message; operation = p.operation; sourced_id = p.sourced_id } ≡ p = ap (λ v. record o { message = p.message; operation = p.operation; sourced_id = p.sourced_id; score_text = v }) t in
+        one ∙ two ∙ three ∙ four
 
 header_once : (o p : Outcome) (x y r s : List ℕ) → (IsMarkup header ▸ Message o) x → (IsMarkup header ▸ Message p) y → x ++ r ≡ y ++ s → (o ≡ p) × (x ≡ y)
 header_once o p x y r s a b e = let t = then_once x y r s (markup_once header refl) (message_once o p) a b e in (t.1, t.2)
@@ -81,22 +79,25 @@ bad_envelope bytes left at at_is s =
     record {
       none = λ o d. (s.apart d.front [] d.back (o, subst (IsEnvelope o) (sym (append-nil d.front)) d.first) d.are).1 refl;
       within = omega (arith, long, left_is, at_is);
-      begins = (s.begins.0, s.begins.1.0,
-        record { front = s.front ++ s.begins.0; back = []; are = ap (λ t. t ++ s.begins.0) (ap (take at) s.are ∙ take_at s.front s.rest at count) ∙ sym (append-nil (s.front ++ s.begins.0)); first = s.begins.1.1; second = refl });
+      begins = (
+        s.begins.0,
+        s.begins.1.0,
+        record { front = s.front ++ s.begins.0; back = []; are = ap (λ t. t ++ s.begins.0) (ap (take at) s.are ∙ take_at s.front s.rest at count) ∙ sym (append-nil (s.front ++ s.begins.0)); first = s.begins.1.1; second = refl },
+      );
       longest = λ n within b. no_longer n within b.0 b.1 b.2;
     } where
-    no_longer : (n : ℕ) → n ≤ length bytes → (more : List ℕ) (o : Outcome) → EnvelopeOf (take n bytes ++ more) o → n ≤ at
-    no_longer n within more o d =
-        let whole : bytes ≡ take n bytes ++ drop n bytes = sym (take-append-drop n bytes) in
-        ⊎_elim
+      no_longer : (n : ℕ) → n ≤ length bytes → (more : List ℕ) (o : Outcome) → EnvelopeOf (take n bytes ++ more) o → n ≤ at
+      no_longer n within more o d =
+          let whole : bytes ≡ take n bytes ++ drop n bytes = sym (take-append-drop n bytes) in
+          ⊎_elim
           (λ h.
-            let there : bytes ≡ d.front ++ (h.0 ++ drop n bytes) = whole ∙ ap (λ t. t ++ drop n bytes) h.1 ∙ append_assoc d.front h.0 (drop n bytes) in
-            absurd ((s.apart d.front [] (h.0 ++ drop n bytes) (o, subst (IsEnvelope o) (sym (append-nil d.front)) d.first) there).1 refl))
+          let there : bytes ≡ d.front ++ (h.0 ++ drop n bytes) = whole ∙ ap (λ t. t ++ drop n bytes) h.1 ∙ append_assoc d.front h.0 (drop n bytes) in
+          absurd ((s.apart d.front [] (h.0 ++ drop n bytes) (o, subst (IsEnvelope o) (sym (append-nil d.front)) d.first) there).1 refl))
           (λ h.
-            let far = s.apart (take n bytes) (h.0 ∷ h.1) (drop n bytes) (o, subst (IsEnvelope o) h.2 d.first) whole in
-            let least = far.0 in
-            let rest = length-drop n bytes in
-            omega (arith, least, rest, at_is, within))
+          let far = s.apart (take n bytes) (h.0 ∷ h.1) (drop n bytes) (o, subst (IsEnvelope o) h.2 d.first) whole in
+          let least = far.0 in
+          let rest = length-drop n bytes in
+          omega (arith, least, rest, at_is, within))
           (compare (take n bytes) d.front more d.back d.are)
 
 -- the white bytes of one run can't hold the first byte behind another
@@ -111,41 +112,41 @@ bad_end bytes rest white b t o at reads are is dark at_is =
     let count : length (reads.front ++ white) ≡ at = omega (arith, long, at_is) in
     record {
       none = λ p d.
-        let same = envelope_once o p reads.front d.front rest d.back reads.is d.first (sym reads.are ∙ d.are) in
-        let behind = behind_same reads.front d.front rest d.back same.1 (sym reads.are ∙ d.are) in
-        not_white white b t [] d.back dark d.second (append-nil (white ++ b ∷ t) ∙ sym are ∙ behind);
+          let same = envelope_once o p reads.front d.front rest d.back reads.is d.first (sym reads.are ∙ d.are) in
+          let behind = behind_same reads.front d.front rest d.back same.1 (sym reads.are ∙ d.are) in
+          not_white white b t [] d.back dark d.second (append-nil (white ++ b ∷ t) ∙ sym are ∙ behind);
       within = omega (arith, long, at_is);
       begins = ([], o, record { front = reads.front; back = white; are = append-nil (take at bytes) ∙ ap (take at) whole ∙ take_at (reads.front ++ white) (b ∷ t) at count; first = reads.is; second = is });
       longest = λ n within d. no_longer n within d.0 d.1 d.2;
     } where
-    no_longer : (n : ℕ) → n ≤ length bytes → (more : List ℕ) (p : Outcome) → EnvelopeOf (take n bytes ++ more) p → n ≤ at
-    no_longer n within more p d =
-        let whole : bytes ≡ (reads.front ++ white) ++ b ∷ t = reads.are ∙ ap (λ k. reads.front ++ k) are ∙ sym (append_assoc reads.front white (b ∷ t)) in
-        let long = ap length whole ∙ length-append (reads.front ++ white) (b ∷ t) in
-        let split : take n bytes ++ drop n bytes ≡ (reads.front ++ white) ++ b ∷ t = take-append-drop n bytes ∙ whole in
-        let taken = length-take-le n bytes within in
-        ⊎_elim
-          (λ h. longer h.0 h.1 h.2)
-          (λ h.
-            let more_long = ap length h.2 ∙ length-append (take n bytes) (h.0 ∷ h.1) in
-            omega (arith, more_long, long, at_is, taken))
-          (compare (take n bytes) (reads.front ++ white) (drop n bytes) (b ∷ t) split)
-      where
-      longer : (m : List ℕ) → take n bytes ≡ (reads.front ++ white) ++ m → b ∷ t ≡ m ++ drop n bytes → n ≤ at
-      longer [] a e =
+      no_longer : (n : ℕ) → n ≤ length bytes → (more : List ℕ) (p : Outcome) → EnvelopeOf (take n bytes ++ more) p → n ≤ at
+      no_longer n within more p d =
           let whole : bytes ≡ (reads.front ++ white) ++ b ∷ t = reads.are ∙ ap (λ k. reads.front ++ k) are ∙ sym (append_assoc reads.front white (b ∷ t)) in
           let long = ap length whole ∙ length-append (reads.front ++ white) (b ∷ t) in
+          let split : take n bytes ++ drop n bytes ≡ (reads.front ++ white) ++ b ∷ t = take-append-drop n bytes ∙ whole in
           let taken = length-take-le n bytes within in
-          let short = ap length (a ∙ append-nil (reads.front ++ white)) in
-          omega (arith, long, at_is, taken, short)
-      longer (c ∷ m) a e =
-          let head : b ≡ c = cc in
-          let all : reads.front ++ (white ++ (c ∷ m ++ more)) ≡ d.front ++ d.back =
-            sym (append_assoc reads.front white (c ∷ m ++ more)) ∙ sym (append_assoc (reads.front ++ white) (c ∷ m) more) ∙ ap (λ k. k ++ more) (sym a) ∙ d.are in
-          let same = envelope_once o p reads.front d.front (white ++ (c ∷ m ++ more)) d.back reads.is d.first all in
-          let behind = behind_same reads.front d.front (white ++ (c ∷ m ++ more)) d.back same.1 all in
-          let dark_too : is_white c ≡ false = ap is_white (sym head) ∙ dark in
-          absurd (not_white white c m more d.back dark_too d.second (append_assoc white (c ∷ m) more ∙ behind))
+          ⊎_elim
+          (λ h. longer h.0 h.1 h.2)
+          (λ h.
+          let more_long = ap length h.2 ∙ length-append (take n bytes) (h.0 ∷ h.1) in
+          omega (arith, more_long, long, at_is, taken))
+          (compare (take n bytes) (reads.front ++ white) (drop n bytes) (b ∷ t) split)
+        where
+          longer : (m : List ℕ) → take n bytes ≡ (reads.front ++ white) ++ m → b ∷ t ≡ m ++ drop n bytes → n ≤ at
+          longer [] a e =
+              let whole : bytes ≡ (reads.front ++ white) ++ b ∷ t = reads.are ∙ ap (λ k. reads.front ++ k) are ∙ sym (append_assoc reads.front white (b ∷ t)) in
+              let long = ap length whole ∙ length-append (reads.front ++ white) (b ∷ t) in
+              let taken = length-take-le n bytes within in
+              let short = ap length (a ∙ append-nil (reads.front ++ white)) in
+              omega (arith, long, at_is, taken, short)
+          longer (c ∷ m) a e =
+              let head : b ≡ c = cc in
+              let all : reads.front ++ (white ++ (c ∷ m ++ more)) ≡ d.front ++ d.back =
+              sym (append_assoc reads.front white (c ∷ m ++ more)) ∙ sym (append_assoc (reads.front ++ white) (c ∷ m) more) ∙ ap (λ k. k ++ more) (sym a) ∙ d.are in
+              let same = envelope_once o p reads.front d.front (white ++ (c ∷ m ++ more)) d.back reads.is d.first all in
+              let behind = behind_same reads.front d.front (white ++ (c ∷ m ++ more)) d.back same.1 all in
+              let dark_too : is_white c ≡ false = ap is_white (sym head) ∙ dark in
+              absurd (not_white white c m more d.back dark_too d.second (append_assoc white (c ∷ m) more ∙ behind))
 
 pub good_end : (bytes rest white : List ℕ) (o : Outcome) → Reads (IsEnvelope o) bytes rest → rest ≡ white → IsWhite white → EnvelopeOf bytes o
 good_end bytes rest white o reads are is = record { front = reads.front; back = rest; are = reads.are; first = reads.is; second = subst IsWhite (sym are) is }

@@ -1,8 +1,8 @@
 -- Sets of byte strings: what stands behind a string, and where reading stops.
-use Rattle.std.proofs.Common.{◌≡◌, ◌≢◌, ℕ, ◌+◌, ◌<◌, ◌≤◌, ◌⊎◌, inl, inr, ⊎_elim, Bool, true, false, ◌&&◌, List, [], ◌∷◌, ◌++◌, length, min, append_assoc, append-nil, refl, sym, ap, ◌∙◌, subst, arith, length-append}
+use Rattle.std.proofs.Common.{◌≡◌, ◌≢◌, ℕ, ◌<◌, ◌≤◌, ◌⊎◌, inl, inr, ⊎_elim, List, [], ◌∷◌, ◌++◌, length, min, append_assoc, append-nil, refl, sym, ap, ◌∙◌, subst, arith, length-append}
 use Rattle.std.proofs.lemmas.List.{append_cancel_left}
 use Rattle.std.proofs.lemmas.Bool.{cases_lt}
-use Rattle.pox_outcomes.specs.Language.{Then, IsFront, StopsAt, Reads}
+use Rattle.pox_outcomes.specs.Language.{Then, StopsAt, Reads}
 use Rattle.pox_outcomes.specs.declared.stops.Left.{Left}
 
 -- no string of the set begins another
@@ -49,9 +49,9 @@ pub after_then : {A B : List ℕ → Type 0} (x : List ℕ) → IsPrefixFree A �
 after_then {A = A} {B = B} x free a = record {
   into = λ y b. record { front = x; back = y; are = refl; first = a; second = b };
   out = λ d r s l e.
-    let e' : l.front ++ (l.back ++ r) ≡ x ++ s = sym (append_assoc l.front l.back r) ∙ ap (λ t. t ++ r) (sym l.are) ∙ e in
-    let same : l.front ≡ x = free l.front x (l.back ++ r) s l.first a e' in
-    (l.back, l.are ∙ ap (λ t. t ++ l.back) same, l.second);
+      let e' : l.front ++ (l.back ++ r) ≡ x ++ s = sym (append_assoc l.front l.back r) ∙ ap (λ t. t ++ r) (sym l.are) ∙ e in
+      let same : l.front ≡ x = free l.front x (l.back ++ r) s l.first a e' in
+      (l.back, l.are ∙ ap (λ t. t ++ l.back) same, l.second);
 }
 
 -- a stop in the first part
@@ -63,14 +63,14 @@ stops_here {A = A} {B = B} bytes n y b s = record {
   left_is = s.left_is;
   begins = (s.begins.0 ++ y, record { front = s.front ++ s.begins.0; back = y; are = sym (append_assoc s.front s.begins.0 y); first = s.begins.1; second = b });
   apart = λ p q r d e.
-    ⊎_elim
+      ⊎_elim
       (λ h.
-        let none : A (d.front ++ []) = subst A (sym (append-nil d.front)) d.first in
-        let there : bytes ≡ d.front ++ (h.0 ++ r) = e ∙ ap (λ t. t ++ r) h.1 ∙ append_assoc d.front h.0 r in
-        absurd ((s.apart d.front [] (h.0 ++ r) none there).1 refl))
+      let none : A (d.front ++ []) = subst A (sym (append-nil d.front)) d.first in
+      let there : bytes ≡ d.front ++ (h.0 ++ r) = e ∙ ap (λ t. t ++ r) h.1 ∙ append_assoc d.front h.0 r in
+      absurd ((s.apart d.front [] (h.0 ++ r) none there).1 refl))
       (λ h.
-        let found = s.apart p (h.0 ∷ h.1) r (subst A h.2 d.first) e in
-        (found.0, no_cons q h.0 (h.1 ++ d.back) h.3))
+      let found = s.apart p (h.0 ∷ h.1) r (subst A h.2 d.first) e in
+      (found.0, no_cons q h.0 (h.1 ++ d.back) h.3))
       (compare p d.front q d.back d.are);
 }
 
@@ -108,18 +108,19 @@ after_leads {L = L} {M = M} bytes x rest are after = record {
     left_is = s.left_is;
     begins = (s.begins.0, subst L (sym (append_assoc x s.front s.begins.0)) (after.into (s.front ++ s.begins.0) s.begins.1));
     apart = λ p q r d e.
-      ⊎_elim
+        ⊎_elim
         (λ h.
-          let all : (p ++ q) ++ [] ≡ x ++ (h.0 ++ q) = append-nil (p ++ q) ∙ ap (λ t. t ++ q) h.1 ∙ append_assoc x h.0 q in
-          let o = after.out (p ++ q) [] (h.0 ++ q) d all in
-          let y_is : o.0 ≡ h.0 ++ q = append_cancel_left x o.0 (h.0 ++ q) (sym o.1 ∙ ap (λ t. t ++ q) h.1 ∙ append_assoc x h.0 q) in
-          s.apart h.0 q r (subst M y_is o.2) h.2)
-        (λ h.
-          (within n s.front rest s.rest bytes s.left_is s.are h.0 h.1 r h.3,
-           λ none.
-             let all : (p ++ q) ++ h.0 ∷ h.1 ≡ x ++ [] = ap (λ t. (p ++ t) ++ h.0 ∷ h.1) none ∙ ap (λ t. t ++ h.0 ∷ h.1) (append-nil p) ∙ sym h.2 ∙ sym (append-nil x) in
-             let o = after.out (p ++ q) (h.0 ∷ h.1) [] d all in
-             too_long p q x o.0 h.0 h.1 o.1 h.2 none))
+        let all : (p ++ q) ++ [] ≡ x ++ (h.0 ++ q) = append-nil (p ++ q) ∙ ap (λ t. t ++ q) h.1 ∙ append_assoc x h.0 q in
+        let o = after.out (p ++ q) [] (h.0 ++ q) d all in
+        let y_is : o.0 ≡ h.0 ++ q = append_cancel_left x o.0 (h.0 ++ q) (sym o.1 ∙ ap (λ t. t ++ q) h.1 ∙ append_assoc x h.0 q) in
+        s.apart h.0 q r (subst M y_is o.2) h.2)
+        (λ h. (
+          within n s.front rest s.rest bytes s.left_is s.are h.0 h.1 r h.3,
+          λ none.
+              let all : (p ++ q) ++ h.0 ∷ h.1 ≡ x ++ [] = ap (λ t. (p ++ t) ++ h.0 ∷ h.1) none ∙ ap (λ t. t ++ h.0 ∷ h.1) (append-nil p) ∙ sym h.2 ∙ sym (append-nil x) in
+              let o = after.out (p ++ q) (h.0 ∷ h.1) [] d all in
+              too_long p q x o.0 h.0 h.1 o.1 h.2 none,
+        ))
         (compare p x r rest (sym e ∙ are));
   };
 }
@@ -165,7 +166,7 @@ stops_first {A = A} {B = B} bytes n m least a b = record {
   left_is = a.left_is;
   begins = (a.begins.0, inl a.begins.1);
   apart = λ p q r d e.
-    ⊎_elim (λ d. a.apart p q r d e) (λ d. let far = b.apart p q r d e in (omega (arith, far.0), far.1)) d;
+      ⊎_elim (λ d. a.apart p q r d e) (λ d. let far = b.apart p q r d e in (omega (arith, far.0), far.1)) d;
 }
 
 flipped : {A B : Type 0} → A ⊎ B → B ⊎ A
@@ -176,9 +177,9 @@ flipped (inr b) = inl b
 pub stops_either : {A B : List ℕ → Type 0} (bytes : List ℕ) (n m : ℕ) → StopsAt A bytes n → StopsAt B bytes m → StopsAt (λ x. A x ⊎ B x) bytes (min n m)
 stops_either {A = A} {B = B} bytes n m a b =
     ⊎_elim
-      (λ (h : n < m). let is : n ≡ min n m = omega arith in subst (λ (k : ℕ). StopsAt (λ x. A x ⊎ B x) bytes k) is (stops_first bytes n m (omega arith) a b))
-      (λ (h : m ≤ n). let is : m ≡ min n m = omega arith in subst (λ (k : ℕ). StopsAt (λ x. A x ⊎ B x) bytes k) is (stops_same bytes m (λ x. flipped) (λ x. flipped) (stops_first bytes m n h b a)))
-      (cases_lt n m)
+    (λ (h : n < m). let is : n ≡ min n m = omega arith in subst (λ (k : ℕ). StopsAt (λ x. A x ⊎ B x) bytes k) is (stops_first bytes n m (omega arith) a b))
+    (λ (h : m ≤ n). let is : m ≡ min n m = omega arith in subst (λ (k : ℕ). StopsAt (λ x. A x ⊎ B x) bytes k) is (stops_same bytes m (λ x. flipped) (λ x. flipped) (stops_first bytes m n h b a)))
+    (cases_lt n m)
 
 -- no string of the set begins as the bytes do
 abbrev pub IsElsewhere : (List ℕ → Type 0) → List ℕ → Type 0
@@ -193,12 +194,12 @@ stops_beside {A = A} {B = B} bytes n beside a = record {
   left_is = a.left_is;
   begins = (a.begins.0, inl a.begins.1);
   apart = λ p q r d e.
-    ⊎_elim (λ d. a.apart p q r d e)
+      ⊎_elim (λ d. a.apart p q r d e)
       (λ d.
-        let far = beside p q r d e in
-        let same : length bytes ≡ length r = ap length (e ∙ ap (λ t. t ++ r) far.0) in
-        let most = left-le bytes n a in
-        (omega (arith, most, same), far.1))
+      let far = beside p q r d e in
+      let same : length bytes ≡ length r = ap length (e ∙ ap (λ t. t ++ r) far.0) in
+      let most = left-le bytes n a in
+      (omega (arith, most, same), far.1))
       d;
 }
 

@@ -1,12 +1,10 @@
 -- Elements that hold a text.
-use Rattle.std.proofs.Common.{◌≡◌, ◌≢◌, ℕ, zero, suc, ◌+◌, ◌<◌, ◌≤◌, ◌⊎◌, inl, inr, ⊎_elim, Bool, true, false, ◌==◌, List, [], ◌∷◌, ◌++◌, length, MatchBool, append_assoc, append-nil, refl, sym, ap, ◌∙◌, subst, arith, codes}
-use Rattle.std.proofs.lemmas.Bool.{false≢true, cases_Bool}
-use Rattle.std.proofs.lemmas.Bool.Decides.{nat_tests}
+use Rattle.std.proofs.Common.{◌≡◌, ℕ, zero, suc, ◌<◌, inl, inr, Bool, true, false, ◌==◌, List, [], ◌++◌, MatchBool, append_assoc, append-nil, refl, sym, ap, ◌∙◌, subst, arith, codes}
 use Rattle.pox_outcomes.specs.Language.{Then, ◌▸◌, StopsAt, Reads, IsAmong, Any}
 use Rattle.pox_outcomes.specs.Markup.{IsMarkup, word_at, is_plain}
 use Rattle.pox_outcomes.specs.Texts.{IsText}
 use Rattle.pox_outcomes.specs.Leaves.{IsLeaf, tag_ends}
-use Rattle.pox_outcomes.proofs.LanguageLemmas.{IsPrefixFree, Leads, leads_first, stops_here, stops_same}
+use Rattle.pox_outcomes.proofs.LanguageLemmas.{leads_first, stops_here, stops_same}
 use Rattle.pox_outcomes.proofs.MarkupLemmas.{markup_one, free_markup}
 use Rattle.pox_outcomes.proofs.ChoiceLemmas.{IsCode, IsChoice, code_words, leads_choice, stops_choice}
 use Rattle.pox_outcomes.proofs.TextLemmas.{IsSomeText, text_once, free_text, behind_same}

@@ -1,13 +1,12 @@
 -- Markup, piece by piece.
-use Rattle.std.proofs.Common.{◌≡◌, ◌≢◌, ℕ, ◌+◌, ◌<◌, ◌≤◌, ◌⊎◌, inl, inr, ⊎_elim, Bool, true, false, cond, not, ◌&&◌, ◌||◌, ◌==◌, List, [], ◌∷◌, ◌++◌, length, drop, get_or, MatchBool, append_assoc, append-nil, refl, sym, ap, ◌∙◌, subst, arith, length-append, drop-cons, add-one}
-use Rattle.std.specs.List.{list_all}
+use Rattle.std.proofs.Common.{◌≡◌, ◌≢◌, ℕ, ◌+◌, ◌<◌, ◌≤◌, ⊎_elim, Bool, true, false, cond, not, ◌==◌, List, [], ◌∷◌, ◌++◌, length, drop, get_or, MatchBool, append-nil, refl, sym, ap, ◌∙◌, subst, arith, drop-cons, add-one}
 use Rattle.std.proofs.lemmas.Bool.{false≢true, cases_Bool}
 use Rattle.std.proofs.lemmas.List.{drop_all, append_cancel_left}
-use Rattle.lti_outside.proofs.BoolLemmas.{and_split, or_split}
-use Rattle.pox_outcomes.specs.Language.{Then, IsFront, StopsAt, Reads}
-use Rattle.pox_outcomes.specs.Markup.{is_white, IsWhite, IsPiece, IsMarkup, begins_dark, is_plain, after_white, BeginsOtherwise}
-use Rattle.pox_outcomes.proofs.LanguageLemmas.{IsPrefixFree, Leads, leads_first, leads_then, leads_same, left-le}
-use Rattle.pox_outcomes.proofs.RunLemmas.{IsRun, IsOutside, BeginsOutside, leads_run, free_run}
+use Rattle.lti_outside.proofs.BoolLemmas.{and_split}
+use Rattle.pox_outcomes.specs.Language.{Then, StopsAt, Reads}
+use Rattle.pox_outcomes.specs.Markup.{is_white, IsWhite, IsMarkup, begins_dark, is_plain, after_white, BeginsOtherwise}
+use Rattle.pox_outcomes.proofs.LanguageLemmas.{IsPrefixFree, Leads, leads_first, leads_then, leads_same}
+use Rattle.pox_outcomes.proofs.RunLemmas.{IsOutside, BeginsOutside, leads_run, free_run}
 
 pub not_true : (t : Bool) → not t ≡ true → t ≡ false
 not_true true e = absurd (false≢true e)
@@ -83,13 +82,13 @@ leads_space b m bytes space plain =
     let w = white_of bytes in
     let dark = plain_space b m space plain in
     subst (λ (t : Bool). Leads (Then (at_test t b) (IsMarkup m)) bytes (IsMarkup m) (after_white bytes)) (sym space)
-      (leads_run is_white bytes w.run (after_white bytes) w.are w.is w.outside (λ x is. outside_markup m x dark is))
+    (leads_run is_white bytes w.run (after_white bytes) w.are w.is w.outside (λ x is. outside_markup m x dark is))
 
 -- any other byte of the markup
 pub leads_byte : (b : ℕ) (m rest : List ℕ) → (b == 32) ≡ false → Leads (IsMarkup (b ∷ m)) (b ∷ rest) (IsMarkup m) rest
 leads_byte b m rest other =
     subst (λ (t : Bool). Leads (Then (at_test t b) (IsMarkup m)) (b ∷ rest) (IsMarkup m) rest) (sym other)
-      (leads_first (b ∷ rest) rest (byte_free b) (record { front = b ∷ []; are = refl; is = refl }))
+    (leads_first (b ∷ rest) rest (byte_free b) (record { front = b ∷ []; are = refl; is = refl }))
 
 -- ---- what the markup stands for
 
@@ -99,9 +98,9 @@ markup_one [] = ([], refl)
 markup_one (b ∷ m) =
     let rest = markup_one m in
     ⊎_elim
-      (λ h. (rest.0, record { front = []; back = rest.0; are = refl; first = subst (λ t. at_test t b []) (sym h) refl; second = rest.1 }))
-      (λ h. (b ∷ rest.0, record { front = b ∷ []; back = rest.0; are = refl; first = subst (λ t. at_test t b (b ∷ [])) (sym h) refl; second = rest.1 }))
-      (cases_Bool (b == 32))
+    (λ h. (rest.0, record { front = []; back = rest.0; are = refl; first = subst (λ t. at_test t b []) (sym h) refl; second = rest.1 }))
+    (λ h. (b ∷ rest.0, record { front = b ∷ []; back = rest.0; are = refl; first = subst (λ t. at_test t b (b ∷ [])) (sym h) refl; second = rest.1 }))
+    (cases_Bool (b == 32))
 
 free_at : (t : Bool) (b : ℕ) (m : List ℕ) → ((t ≡ true) → begins_dark m ≡ true) → IsPrefixFree (IsMarkup m) → IsPrefixFree (Then (at_test t b) (IsMarkup m))
 free_at true b m dark free = free_run is_white free (λ x is. outside_markup m x (dark refl) is)
@@ -172,8 +171,8 @@ stops_byte b m rest other fails =
       left_is = refl;
       begins = one;
       apart = λ p q r d e.
-        let first : d.front ≡ b ∷ [] = subst (λ t. at_test t b d.front) other d.first in
-        otherwise b d.back rest p q r fails (d.are ∙ ap (λ t. t ++ d.back) first) e;
+          let first : d.front ≡ b ∷ [] = subst (λ t. at_test t b d.front) other d.first in
+          otherwise b d.back rest p q r fails (d.are ∙ ap (λ t. t ++ d.back) first) e;
     }
 
 pub going_stops : (markup bytes rest : List ℕ) (at : ℕ) → at < length markup → (get_or markup at 0 == 32) ≡ false → BeginsOtherwise (get_or markup at 0) rest → Going markup bytes at rest

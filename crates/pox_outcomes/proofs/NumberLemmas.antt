@@ -1,12 +1,12 @@
 -- Numbers of references, digit by digit.
-use Rattle.std.proofs.Common.{◌≡◌, ◌≢◌, ℕ, ◌+◌, ◌*◌, ◌<◌, ◌≤◌, ◌⊎◌, inl, inr, ⊎_elim, Bool, true, false, cond, not, ◌&&◌, ◌||◌, ◌==◌, nat_lt, nat_le, List, [], ◌∷◌, ◌++◌, length, append_assoc, append-nil, refl, sym, ap, ◌∙◌, subst, arith, codes}
+use Rattle.std.proofs.Common.{◌≡◌, ◌≢◌, ℕ, ◌+◌, ◌*◌, ◌<◌, ◌≤◌, ◌⊎◌, inl, inr, ⊎_elim, true, false, List, [], ◌∷◌, ◌++◌, length, append_assoc, refl, sym, ap, ◌∙◌, subst, arith, codes}
 use Rattle.std.specs.Char.{digit_value}
 use Rattle.std.specs.List.{list_all}
 use Rattle.std.proofs.lemmas.Bool.{false≢true, cases_Bool, cases_lt}
 use Rattle.std.proofs.lemmas.Bool.Decides.{nat_tests}
 use Rattle.std.proofs.Math.Nat.{mul-le-mul_left}
 use Rattle.lti_outside.proofs.BoolLemmas.{and_split}
-use Rattle.pox_outcomes.specs.Language.{Then, StopsAt, Reads}
+use Rattle.pox_outcomes.specs.Language.{StopsAt, Reads}
 use Rattle.pox_outcomes.specs.Markup.{BeginsOtherwise}
 use Rattle.pox_outcomes.specs.Characters.{is_allowed}
 use Rattle.pox_outcomes.specs.References.{is_digit, number_from, IsNumber, EndsNumber, GoesOn}
@@ -65,11 +65,11 @@ counts_more base value next bytes rest others small goes counts = record {
   front = counts.front ++ goes.digit ∷ [];
   are = counts.are ∙ ap (λ t. counts.front ++ t) goes.are ∙ sym (append_assoc counts.front (goes.digit ∷ []) others);
   into = λ code y n.
-    let number : IsNumber base (value * base + digit_value goes.digit) code y = subst (λ (v : ℕ). IsNumber base v code y) goes.next_is n in
-    subst (IsNumber base 0 code) (sym (append_assoc counts.front (goes.digit ∷ []) y)) (counts.into code (goes.digit ∷ y) (step_into base value goes.digit code y goes.in_base number));
+      let number : IsNumber base (value * base + digit_value goes.digit) code y = subst (λ (v : ℕ). IsNumber base v code y) goes.next_is n in
+      subst (IsNumber base 0 code) (sym (append_assoc counts.front (goes.digit ∷ []) y)) (counts.into code (goes.digit ∷ y) (step_into base value goes.digit code y goes.in_base number));
   stops = λ n s.
-    let there : StopsAt (IsSome base (value * base + digit_value goes.digit)) others n = subst (λ (v : ℕ). StopsAt (IsSome base v) others n) goes.next_is s in
-    counts.stops n (subst (λ t. StopsAt (IsSome base value) t n) (sym goes.are) ((leads_digit base value goes.digit others small goes.in_base).stops n there));
+      let there : StopsAt (IsSome base (value * base + digit_value goes.digit)) others n = subst (λ (v : ℕ). StopsAt (IsSome base v) others n) goes.next_is s in
+      counts.stops n (subst (λ t. StopsAt (IsSome base value) t n) (sym goes.are) ((leads_digit base value goes.digit others small goes.in_base).stops n there));
   most = goes.most;
 }
 
@@ -118,8 +118,6 @@ stuck_at base value code (d ∷ digits) (b ∷ p) q r (c ∷ rest) least ends go
     let same : digit_value c ≡ digit_value d = ap digit_value (first ∙ head) in
     absurd (ends digit (omega (arith, more, most, spells, same)))
 
-
-
 allowed_low : (c : ℕ) → 0x20 ≤ c → c ≤ 0xD7FF → is_allowed c ≡ true
 allowed_low c least most = grind (arith, nat_tests)
 
@@ -138,51 +136,51 @@ behind_digit base value digit in_base rest = (digit ∷ rest.0, (rest.1.0, step_
 between : (value : ℕ) → 0x20 ≤ value → value ≤ 0x10FFFF → is_allowed value ≡ false → (0xD7FF < value) × (value < 0x10000)
 between value least most fails =
     ⊎_elim (λ (h : 0xD7FF < value).
-        ⊎_elim (λ (g : value < 0x10000). (h, g)) (λ (g : 0x10000 ≤ value). absurd (false≢true (sym fails ∙ allowed_high value g most))) (cases_lt value 0x10000))
-      (λ (h : value ≤ 0xD7FF). absurd (false≢true (sym fails ∙ allowed_low value least h)))
-      (cases_lt 0xD7FF value)
+    ⊎_elim (λ (g : value < 0x10000). (h, g)) (λ (g : 0x10000 ≤ value). absurd (false≢true (sym fails ∙ allowed_high value g most))) (cases_lt value 0x10000))
+    (λ (h : value ≤ 0xD7FF). absurd (false≢true (sym fails ∙ allowed_low value least h)))
+    (cases_lt 0xD7FF value)
 
 goes_ten : (value : ℕ) → value ≤ 0x10FFFF → (y : List ℕ) × IsSome 10 value y
 goes_ten value most =
     ⊎_elim (λ (h : is_allowed value ≡ true). ends_here 10 value h)
-      (λ (h : is_allowed value ≡ false).
-        ⊎_elim
-          (λ (g : value < 0x20).
-            ⊎_elim
-              (λ (z : value < 1).
-                let zero_is : 0 ≡ value = omega arith in
-                subst (λ (v : ℕ). (y : List ℕ) × IsSome 10 v y) zero_is (behind_digit 10 0 57 refl (ends_here 10 9 refl)))
-              (λ (z : 1 ≤ value).
-                behind_digit 10 value 48 refl (behind_digit 10 (value * 10 + 0) 48 refl (ends_here 10 ((value * 10 + 0) * 10 + 0) (allowed_low ((value * 10 + 0) * 10 + 0) (omega arith) (omega arith)))))
-              (cases_lt value 1))
-          (λ (g : 0x20 ≤ value).
-            let far = between value g most h in
-            let low = far.0 in
-            let high = far.1 in
-            behind_digit 10 value 48 refl (ends_here 10 (value * 10 + 0) (allowed_high (value * 10 + 0) (omega arith) (omega arith))))
-          (cases_lt value 0x20))
-      (cases_Bool (is_allowed value))
+    (λ (h : is_allowed value ≡ false).
+    ⊎_elim
+    (λ (g : value < 0x20).
+    ⊎_elim
+    (λ (z : value < 1).
+    let zero_is : 0 ≡ value = omega arith in
+    subst (λ (v : ℕ). (y : List ℕ) × IsSome 10 v y) zero_is (behind_digit 10 0 57 refl (ends_here 10 9 refl)))
+    (λ (z : 1 ≤ value).
+    behind_digit 10 value 48 refl (behind_digit 10 (value * 10 + 0) 48 refl (ends_here 10 ((value * 10 + 0) * 10 + 0) (allowed_low ((value * 10 + 0) * 10 + 0) (omega arith) (omega arith)))))
+    (cases_lt value 1))
+    (λ (g : 0x20 ≤ value).
+    let far = between value g most h in
+    let low = far.0 in
+    let high = far.1 in
+    behind_digit 10 value 48 refl (ends_here 10 (value * 10 + 0) (allowed_high (value * 10 + 0) (omega arith) (omega arith))))
+    (cases_lt value 0x20))
+    (cases_Bool (is_allowed value))
 
 goes_sixteen : (value : ℕ) → value ≤ 0x10FFFF → (y : List ℕ) × IsSome 16 value y
 goes_sixteen value most =
     ⊎_elim (λ (h : is_allowed value ≡ true). ends_here 16 value h)
-      (λ (h : is_allowed value ≡ false).
-        ⊎_elim
-          (λ (g : value < 0x20).
-            ⊎_elim
-              (λ (z : value < 1).
-                let zero_is : 0 ≡ value = omega arith in
-                subst (λ (v : ℕ). (y : List ℕ) × IsSome 16 v y) zero_is (behind_digit 16 0 57 refl (ends_here 16 9 refl)))
-              (λ (z : 1 ≤ value).
-                behind_digit 16 value 48 refl (behind_digit 16 (value * 16 + 0) 48 refl (ends_here 16 ((value * 16 + 0) * 16 + 0) (allowed_low ((value * 16 + 0) * 16 + 0) (omega arith) (omega arith)))))
-              (cases_lt value 1))
-          (λ (g : 0x20 ≤ value).
-            let far = between value g most h in
-            let low = far.0 in
-            let high = far.1 in
-            behind_digit 16 value 48 refl (ends_here 16 (value * 16 + 0) (allowed_high (value * 16 + 0) (omega arith) (omega arith))))
-          (cases_lt value 0x20))
-      (cases_Bool (is_allowed value))
+    (λ (h : is_allowed value ≡ false).
+    ⊎_elim
+    (λ (g : value < 0x20).
+    ⊎_elim
+    (λ (z : value < 1).
+    let zero_is : 0 ≡ value = omega arith in
+    subst (λ (v : ℕ). (y : List ℕ) × IsSome 16 v y) zero_is (behind_digit 16 0 57 refl (ends_here 16 9 refl)))
+    (λ (z : 1 ≤ value).
+    behind_digit 16 value 48 refl (behind_digit 16 (value * 16 + 0) 48 refl (ends_here 16 ((value * 16 + 0) * 16 + 0) (allowed_low ((value * 16 + 0) * 16 + 0) (omega arith) (omega arith)))))
+    (cases_lt value 1))
+    (λ (g : 0x20 ≤ value).
+    let far = between value g most h in
+    let low = far.0 in
+    let high = far.1 in
+    behind_digit 16 value 48 refl (ends_here 16 (value * 16 + 0) (allowed_high (value * 16 + 0) (omega arith) (omega arith))))
+    (cases_lt value 0x20))
+    (cases_Bool (is_allowed value))
 
 pub goes_on : (base value : ℕ) → (base ≡ 10) ⊎ (base ≡ 16) → value ≤ 0x10FFFF → (y : List ℕ) × IsSome base value y
 goes_on base value (inl h) most = subst (λ (b : ℕ). (y : List ℕ) × IsSome b value y) (sym h) (goes_ten value most)

@@ -1,6 +1,5 @@
 -- References to characters.
-use Rattle.std.proofs.Common.{◌≡◌, ◌≢◌, ℕ, zero, suc, ◌+◌, ◌*◌, ◌<◌, ◌≤◌, ◌⊎◌, inl, inr, ⊎_elim, Bool, true, false, cond, not, ◌&&◌, ◌||◌, ◌==◌, List, [], ◌∷◌, ◌++◌, length, get_or, slice_index, MatchBool, append_assoc, append-nil, refl, sym, ap, ◌∙◌, subst, arith, codes}
-use Rattle.std.specs.Char.{digit_value}
+use Rattle.std.proofs.Common.{◌≡◌, ◌≢◌, ℕ, zero, suc, ◌<◌, ◌⊎◌, inl, inr, ⊎_elim, Bool, true, false, ◌==◌, List, [], ◌∷◌, ◌++◌, slice_index, MatchBool, append_assoc, append-nil, refl, sym, ap, ◌∙◌, subst, arith, codes}
 use Rattle.std.specs.List.{list_all}
 use Rattle.std.proofs.lemmas.Bool.{false≢true, cases_Bool}
 use Rattle.std.proofs.lemmas.List.{append_cancel_left}
@@ -8,9 +7,8 @@ use Rattle.std.proofs.lemmas.Bool.Decides.{nat_tests}
 use Rattle.lti_outside.proofs.BoolLemmas.{and_split}
 use Rattle.pox_outcomes.specs.Language.{Then, StopsAt, Reads, IsAmong}
 use Rattle.pox_outcomes.specs.Markup.{IsMarkup, word_at, BeginsOtherwise}
-use Rattle.pox_outcomes.specs.References.{is_digit, number_from, IsNumber, IsNumeral, IsClosing, IsReference, openings, named}
-use Rattle.pox_outcomes.proofs.LanguageLemmas.{Leads, IsElsewhere, After, after_leads, stops_beside, stops_same, no_cons}
-use Rattle.pox_outcomes.proofs.MarkupLemmas.{free_markup}
+use Rattle.pox_outcomes.specs.References.{is_digit, IsNumber, IsNumeral, IsClosing, IsReference, openings, named}
+use Rattle.pox_outcomes.proofs.LanguageLemmas.{Leads, after_leads, stops_beside, stops_same, no_cons}
 use Rattle.pox_outcomes.proofs.ChoiceLemmas.{IsCode, IsChoice, code_words, leads_choice, stops_choice}
 use Rattle.pox_outcomes.proofs.NumberLemmas.{IsSome, goes_on, number_once}
 
@@ -90,12 +88,12 @@ closes t place code bytes = MatchBool t (IsNumeral code bytes) ((code ≡ slice_
 closing_one : (place : ℕ) → (y : List ℕ) × IsSomeClosing place y
 closing_one place =
     ⊎_elim
-      (λ (h : (place == 5) ≡ true).
-        let n = goes_on 10 0 (inl refl) (omega arith) in
-        (n.0, (n.1.0, subst (λ t. closes t place n.1.0 n.0) (sym h) (inr n.1.1))))
-      (λ (h : (place == 5) ≡ false).
-        ([], (slice_index named place, subst (λ t. closes t place (slice_index named place) []) (sym h) (refl, refl))))
-      (cases_Bool (place == 5))
+    (λ (h : (place == 5) ≡ true).
+    let n = goes_on 10 0 (inl refl) (omega arith) in
+    (n.0, (n.1.0, subst (λ t. closes t place n.1.0 n.0) (sym h) (inr n.1.1))))
+    (λ (h : (place == 5) ≡ false).
+    ([], (slice_index named place, subst (λ t. closes t place (slice_index named place) []) (sym h) (refl, refl))))
+    (cases_Bool (place == 5))
 
 code_openings : IsCode Opens 6
 code_openings = code_words openings refl
@@ -126,13 +124,17 @@ named_reads bytes rest place code within is opened =
     record {
       front = opened.front;
       are = opened.are;
-      is = (place, omega arith, record {
-        front = opened.front;
-        back = [];
-        are = sym (append-nil opened.front);
-        first = opened.is;
-        second = subst (λ t. closes t place code []) (sym other) (is, refl);
-      });
+      is = (
+        place,
+        omega arith,
+        record {
+          front = opened.front;
+          back = [];
+          are = sym (append-nil opened.front);
+          first = opened.is;
+          second = subst (λ t. closes t place code []) (sym other) (is, refl);
+        },
+      );
     }
 
 -- ---- each reference is to one character

@@ -1,19 +1,19 @@
 -- Outcome requests.
-use Rattle.std.proofs.Common.{◌≡◌, ◌≢◌, ℕ, zero, suc, ◌+◌, ◌<◌, ◌≤◌, ◌⊎◌, inl, inr, ⊎_elim, Bool, true, false, ◌==◌, List, [], ◌∷◌, ◌++◌, length, append_assoc, append-nil, refl, sym, ap, ◌∙◌, subst, arith, codes}
-use Rattle.pox_outcomes.specs.Language.{Then, ◌▸◌, StopsAt, Reads, IsAmong, Any}
+use Rattle.std.proofs.Common.{◌≡◌, ℕ, zero, suc, ◌<◌, inl, inr, true, false, List, [], ◌∷◌, ◌++◌, append_assoc, refl, sym, ap, ◌∙◌, subst, arith, codes}
+use Rattle.pox_outcomes.specs.Language.{Then, ◌▸◌, StopsAt, Reads, Any}
 use Rattle.pox_outcomes.specs.Markup.{IsMarkup, IsOneOf, word_at, is_plain, are_words}
 use Rattle.pox_outcomes.specs.Leaves.{IsLeaf}
 use Rattle.pox_outcomes.specs.Attributes.{IsAttributes}
 use Rattle.pox_outcomes.specs.Declaration.{IsOpening}
-use Rattle.pox_outcomes.specs.Request.{root, header, operations, place_of, IsTextString, scores, IsBehindLanguage, replace_end, IsScore, read_end, delete_end, IsTail, IsResult, IsEnvelope, EnvelopeOf}
+use Rattle.pox_outcomes.specs.Request.{root, header, operations, place_of, IsTextString, scores, IsBehindLanguage, replace_end, IsScore, read_end, delete_end, IsTail, IsEnvelope}
 use Rattle.pox_outcomes.specs.declared.outcome.Operation.{Operation}
 use Rattle.pox_outcomes.specs.declared.outcome.Operation.TheVariants.{ReplaceResult, ReadResult, DeleteResult}
 use Rattle.pox_outcomes.specs.declared.outcome.Outcome.{Outcome}
-use Rattle.pox_outcomes.proofs.LanguageLemmas.{IsPrefixFree, Leads, leads_first, stops_here, stops_same, reads_then}
+use Rattle.pox_outcomes.proofs.LanguageLemmas.{IsPrefixFree, leads_first, stops_here, stops_same, reads_then}
 use Rattle.pox_outcomes.proofs.MarkupLemmas.{markup_one, free_markup}
 use Rattle.pox_outcomes.proofs.ChoiceLemmas.{IsCode, IsChoice, code_words, leads_choice, stops_choice}
 use Rattle.pox_outcomes.proofs.LeafLemmas.{leaf_once, then_once, markup_once}
-use Rattle.pox_outcomes.proofs.DeclarationLemmas.{then_free, free_opening, opening_one}
+use Rattle.pox_outcomes.proofs.DeclarationLemmas.{free_opening}
 use Rattle.pox_outcomes.proofs.AttributeLemmas.{attributes_one, free_attributes}
 
 -- ---- leaves, whatever their text
@@ -102,10 +102,10 @@ language_once closing t u plain x y r s a b e =
     let o = then_once {P = Unit {0}} x y r s (λ x y r s a b e. (tt, free_leaf (codes "/language >") refl x y r s a b e)) (word_once closing t u plain) a b e in
     (o.1, o.2)
   where
-  word_once : (closing t u : List ℕ) → is_plain closing ≡ true → (x y r s : List ℕ) → (IsMarkup (codes " <textString") ▸ IsTextString closing t) x → (IsMarkup (codes " <textString") ▸ IsTextString closing u) y → x ++ r ≡ y ++ s → (t ≡ u) × (x ≡ y)
-  word_once closing t u plain x y r s a b e =
-      let o = then_once x y r s (markup_once (codes " <textString") refl) (string_once closing t u plain) a b e in
-      (o.1, o.2)
+    word_once : (closing t u : List ℕ) → is_plain closing ≡ true → (x y r s : List ℕ) → (IsMarkup (codes " <textString") ▸ IsTextString closing t) x → (IsMarkup (codes " <textString") ▸ IsTextString closing u) y → x ++ r ≡ y ++ s → (t ≡ u) × (x ≡ y)
+    word_once closing t u plain x y r s a b e =
+        let o = then_once x y r s (markup_once (codes " <textString") refl) (string_once closing t u plain) a b e in
+        (o.1, o.2)
 
 -- ---- the score of a replaceResult
 
@@ -153,7 +153,7 @@ score_reads_string bytes rest behind score r t = let u = reads_then bytes rest b
 score_apart : (t u x y r s : List ℕ) → (IsMarkup (word_at scores 0) ▸ IsBehindLanguage replace_end t) x → (IsMarkup (word_at scores 1) ▸ IsTextString replace_end u) y → x ++ r ≡ y ++ s → ⊥
 score_apart t u x y r s a b e =
     let far = code_scores 0 1 (omega arith) (omega arith) a.front b.front (a.back ++ r) (b.back ++ s) a.first b.first
-      (sym (ap (λ t. t ++ r) a.are ∙ append_assoc a.front a.back r) ∙ e ∙ ap (λ t. t ++ s) b.are ∙ append_assoc b.front b.back s) in
+    (sym (ap (λ t. t ++ r) a.are ∙ append_assoc a.front a.back r) ∙ e ∙ ap (λ t. t ++ s) b.are ∙ append_assoc b.front b.back s) in
     omega (arith, far.0)
 
 pub score_once : (t u x y r s : List ℕ) → IsScore t x → IsScore u y → x ++ r ≡ y ++ s → (t ≡ u) × (x ≡ y)
@@ -167,7 +167,6 @@ score_once t u x y r s (inr a) (inr b) e =
     (o.1, o.2)
 
 -- ---- the tail
-
 
 pub read_stops : (bytes : List ℕ) (n : ℕ) → StopsAt (IsMarkup read_end) bytes n → StopsAt (Any (IsTail ReadResult)) bytes n
 read_stops bytes n s = stops_same bytes n (λ x m. ([], (refl, m))) (λ x h. h.1.1) s
@@ -271,14 +270,45 @@ to_envelope x h =
     let asked = message.second in
     let ask = asked.2 in
     let place : place_of (operation_of asked.0) ≡ asked.0 = place_back asked.0 asked.1 in
-    let word : IsMarkup (word_at operations (place_of (operation_of asked.0))) ask.front = subst (λ (k : ℕ). IsMarkup (word_at operations k) ask.front) (sym place) ask.first in
-    (record { message = message.first.0; operation = operation_of asked.0; sourced_id = ask.second.first.0; score_text = ask.second.second.0 },
-     record { front = h.front; back = h.back; are = h.are; first = h.first; second =
-       record { front = attributes.front; back = attributes.back; are = attributes.are; first = attributes.first; second =
-         record { front = head.front; back = head.back; are = head.are; first = head.first; second =
-           record { front = message.front; back = message.back; are = message.are; first = message.first.1; second =
-             record { front = ask.front; back = ask.back; are = ask.are; first = word; second =
-               record { front = ask.second.front; back = ask.second.back; are = ask.second.are; first = ask.second.first.1; second = ask.second.second.1 } } } } } })
+    let word : IsMarkup (word_at operations (place_of (operation_of asked.0))) ask.front = subst (λ (k : ℕ). IsMarkup (word_at operations k) ask.front) (sym place) ask.first in (
+      record { message = message.first.0; operation = operation_of asked.0; sourced_id = ask.second.first.0; score_text = ask.second.second.0 },
+      record {
+        front = h.front;
+        back = h.back;
+        are = h.are;
+        first = h.first;
+        second =
+            record {
+              front = attributes.front;
+              back = attributes.back;
+              are = attributes.are;
+              first = attributes.first;
+              second =
+                  record {
+                    front = head.front;
+                    back = head.back;
+                    are = head.are;
+                    first = head.first;
+                    second =
+                        record {
+                          front = message.front;
+                          back = message.back;
+                          are = message.are;
+                          first = message.first.1;
+                          second =
+                              record {
+                                front = ask.front;
+                                back = ask.back;
+                                are = ask.are;
+                                first = word;
+                                second =
+                                    record { front = ask.second.front; back = ask.second.back; are = ask.second.are; first = ask.second.first.1; second = ask.second.second.1 };
+                              };
+                        };
+                  };
+            };
+      },
+    )
 
 from_envelope : (o : Outcome) (x : List ℕ) → IsEnvelope o x → Whole x
 from_envelope o x h =
@@ -287,12 +317,45 @@ from_envelope o x h =
     let message = head.second in
     let ask = message.second in
     let back = operation_back o.operation in
-    record { front = h.front; back = h.back; are = h.are; first = h.first; second =
-      record { front = attributes.front; back = attributes.back; are = attributes.are; first = attributes.first; second =
-        record { front = head.front; back = head.back; are = head.are; first = head.first; second =
-          record { front = message.front; back = message.back; are = message.are; first = (o.message, message.first); second =
-            (place_of o.operation, place_within o.operation, record { front = ask.front; back = ask.back; are = ask.are; first = ask.first; second =
-              subst (λ k. Identified k ask.back) (sym back) (record { front = ask.second.front; back = ask.second.back; are = ask.second.are; first = (o.sourced_id, ask.second.first); second = (o.score_text, ask.second.second) }) }) } } } }
+    record {
+      front = h.front;
+      back = h.back;
+      are = h.are;
+      first = h.first;
+      second =
+          record {
+            front = attributes.front;
+            back = attributes.back;
+            are = attributes.are;
+            first = attributes.first;
+            second =
+                record {
+                  front = head.front;
+                  back = head.back;
+                  are = head.are;
+                  first = head.first;
+                  second =
+                      record {
+                        front = message.front;
+                        back = message.back;
+                        are = message.are;
+                        first = (o.message, message.first);
+                        second = (
+                          place_of o.operation,
+                          place_within o.operation,
+                          record {
+                            front = ask.front;
+                            back = ask.back;
+                            are = ask.are;
+                            first = ask.first;
+                            second =
+                                subst (λ k. Identified k ask.back) (sym back) (record { front = ask.second.front; back = ask.second.back; are = ask.second.are; first = (o.sourced_id, ask.second.first); second = (o.score_text, ask.second.second) });
+                          },
+                        );
+                      };
+                };
+          };
+    }
 
 same_envelope : (bytes : List ℕ) (n : ℕ) → StopsAt Whole bytes n → StopsAt (Any IsEnvelope) bytes n
 same_envelope bytes n s = stops_same bytes n to_envelope (λ x h. from_envelope h.0 x h.1) s
@@ -346,8 +409,8 @@ module _ (bytes : List ℕ) where
       → StopsAt (Any IsEnvelope) bytes n
   envelope_stops_tail opened named headed asked message identified id scored operation n r a h m o i s =
       identified_leads opened named headed asked message identified (place_of operation) n (place_within operation) r a h m o
-        (subst (λ k. StopsAt (Identified k) identified n) (sym (operation_back operation))
-          ((leads_first identified scored (free_leaf (codes "/sourcedId >") refl) (leaf_read (codes "/sourcedId >") identified id scored i)).stops n s))
+      (subst (λ k. StopsAt (Identified k) identified n) (sym (operation_back operation))
+      ((leads_first identified scored (free_leaf (codes "/sourcedId >") refl) (leaf_read (codes "/sourcedId >") identified id scored i)).stops n s))
 
 pub envelope_reads : (bytes opened named headed asked identified scored behind : List ℕ) (o : Outcome) → Reads (IsOpening root) bytes opened → Reads (IsAttributes false) opened named → Reads (IsMarkup header) named headed
     → Reads (IsLeaf (codes "/imsx_messageIdentifier >") o.message) headed asked → Reads (Asks (place_of o.operation)) asked identified → Reads (IsLeaf (codes "/sourcedId >") o.sourced_id) identified scored

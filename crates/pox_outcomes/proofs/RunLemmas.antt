@@ -1,10 +1,10 @@
 -- Runs of bytes that pass a test.
-use Rattle.std.proofs.Common.{◌≡◌, ◌≢◌, ℕ, ◌+◌, ◌<◌, ◌≤◌, ◌⊎◌, inl, inr, ⊎_elim, Bool, true, false, ◌&&◌, List, [], ◌∷◌, ◌++◌, length, append_assoc, append-nil, refl, sym, ap, ◌∙◌, subst, arith, length-append}
+use Rattle.std.proofs.Common.{◌≡◌, ◌≢◌, ℕ, ◌≤◌, ⊎_elim, Bool, true, false, List, [], ◌∷◌, ◌++◌, length, append_assoc, append-nil, refl, sym, ap, ◌∙◌, subst, arith, length-append}
 use Rattle.std.specs.List.{list_all}
 use Rattle.std.proofs.lemmas.Bool.{false≢true}
 use Rattle.lti_outside.proofs.BoolLemmas.{and_split}
-use Rattle.pox_outcomes.specs.Language.{Then, IsFront, StopsAt, Reads}
-use Rattle.pox_outcomes.proofs.LanguageLemmas.{Leads, IsLonger, IsShorter, compare, left-le}
+use Rattle.pox_outcomes.specs.Language.{Then, StopsAt}
+use Rattle.pox_outcomes.proofs.LanguageLemmas.{Leads, compare, left-le}
 
 -- a run of bytes that pass
 abbrev pub IsRun : (ℕ → Bool) → List ℕ → Type 0
@@ -82,14 +82,14 @@ leads_run {B = B} P bytes run rest are is fails outside = record {
     left_is = s.left_is;
     begins = (s.begins.0, record { front = run; back = s.front ++ s.begins.0; are = append_assoc run s.front s.begins.0; first = is; second = s.begins.1 });
     apart = λ p q r d e.
-      ⊎_elim
+        ⊎_elim
         (λ h. apart_at P run d.front d.back h.0 q rest r n is d.first (outside d.back d.second) fails h.2
-          (sym (append_assoc run h.0 q) ∙ ap (λ t. t ++ q) (sym h.1) ∙ d.are) d.second s)
+        (sym (append_assoc run h.0 q) ∙ ap (λ t. t ++ q) (sym h.1) ∙ d.are) d.second s)
         (λ h.
-          let front_run : IsRun P p = run_front P p h.0 h.1 run h.2 is in
-          let long = ap length h.3 in
-          let more = length-append h.1 rest in
-          (omega (arith, left-le rest n s, long, more), run_ends P p d.front d.back q front_run d.are (outside d.back d.second)))
+        let front_run : IsRun P p = run_front P p h.0 h.1 run h.2 is in
+        let long = ap length h.3 in
+        let more = length-append h.1 rest in
+        (omega (arith, left-le rest n s, long, more), run_ends P p d.front d.back q front_run d.are (outside d.back d.second)))
         (compare p run r rest (sym e ∙ are));
   };
 }

@@ -1,16 +1,15 @@
 -- Texts, unit by unit.
-use Rattle.std.proofs.Common.{◌≡◌, ◌≢◌, ℕ, zero, suc, ◌+◌, ◌<◌, ◌≤◌, ◌⊎◌, inl, inr, ⊎_elim, Bool, true, false, cond, not, ◌&&◌, ◌||◌, ◌==◌, List, [], ◌∷◌, ◌++◌, length, append_assoc, append-nil, refl, sym, ap, ◌∙◌, subst, arith, length-append, codes, encode_utf8}
+use Rattle.std.proofs.Common.{◌≡◌, ◌≢◌, ℕ, ◌≤◌, ◌⊎◌, inl, inr, ⊎_elim, Bool, true, false, ◌||◌, ◌==◌, List, [], ◌∷◌, ◌++◌, length, append_assoc, append-nil, refl, sym, ap, ◌∙◌, subst, arith, length-append, codes, encode_utf8}
 use Rattle.std.specs.List.{list_all}
-use Rattle.std.proofs.lemmas.Bool.{false≢true, cases_Bool}
+use Rattle.std.proofs.lemmas.Bool.{false≢true}
 use Rattle.std.proofs.lemmas.List.{append_cancel_left}
 use Rattle.std.proofs.lemmas.Bool.Decides.{nat_tests}
-use Rattle.lti_outside.proofs.BoolLemmas.{and_split, or_split}
-use Rattle.pox_outcomes.specs.Language.{Then, IsFront, StopsAt, Reads}
+use Rattle.lti_outside.proofs.BoolLemmas.{and_split}
+use Rattle.pox_outcomes.specs.Language.{Then, StopsAt, Reads}
 use Rattle.pox_outcomes.specs.Markup.{is_white, IsWhite, BeginsOtherwise}
-use Rattle.pox_outcomes.specs.Characters.{IsRow, rows, row_at, IsCharacter, IsCharacterBy, begins}
-use Rattle.pox_outcomes.specs.References.{IsReference}
+use Rattle.pox_outcomes.specs.Characters.{rows, row_at, IsCharacter, IsCharacterBy, begins}
 use Rattle.pox_outcomes.specs.Texts.{is_literal, IsLiteral, IsUnit, is_gap, IsGap, IsRest, ends, goes, IsUnits, IsBegun, IsText, Pushes, PushesGap}
-use Rattle.pox_outcomes.proofs.LanguageLemmas.{IsPrefixFree, IsElsewhere, Leads, compare, leads_first, stops_here, stops_beside, stops_same, left-le, no_cons}
+use Rattle.pox_outcomes.proofs.LanguageLemmas.{IsPrefixFree, compare, leads_first, stops_here, stops_beside, stops_same, no_cons}
 use Rattle.pox_outcomes.proofs.RunLemmas.{IsRun, IsOutside, BeginsOutside, run_once, run_front, run_ends, run_no, leads_run}
 use Rattle.pox_outcomes.proofs.MarkupLemmas.{not_true}
 use Rattle.pox_outcomes.proofs.CharacterLemmas.{free_character, nonempty_at, empty_row}
@@ -39,9 +38,9 @@ literal_byte (b ∷ t) e =
     let first = neither_of (is_white b) (b == 60) both.0 in
     (b, t, refl, first.0, first.1, both.1)
   where
-  neither_of : (p q : Bool) → (p || q) ≡ false → (p ≡ false) × (q ≡ false)
-  neither_of true q e = absurd (false≢true (sym e))
-  neither_of false q e = (refl, e)
+    neither_of : (p q : Bool) → (p || q) ≡ false → (p ≡ false) × (q ≡ false)
+    neither_of true q e = absurd (false≢true (sym e))
+    neither_of false q e = (refl, e)
 
 -- a unit begins with a byte that isn't white and isn't `<`
 pub unit_byte : (text x : List ℕ) → IsUnit text x → (b : ℕ) × (t : List ℕ) × (x ≡ b ∷ t) × (is_white b ≡ false) × ((b == 60) ≡ false)
@@ -224,7 +223,7 @@ elsewhere_mark (c ∷ bytes) (b ∷ p) q r t other e is = absurd (other cc)
 pub literal_stops : (bytes : List ℕ) (n : ℕ) → BeginsOtherwise 38 bytes → StopsAt IsLiteral bytes n → StopsAt IsSomeUnit bytes n
 literal_stops bytes n other s =
     stops_same bytes n literal_unit (λ x u. unit_literal u.0 x u.1)
-      (stops_beside bytes n (λ p q r d e. let first = reference_begins d.0 (p ++ q) d.1 in elsewhere_mark bytes p q r first.0 other first.1 e) s)
+    (stops_beside bytes n (λ p q r d e. let first = reference_begins d.0 (p ++ q) d.1 in elsewhere_mark bytes p q r first.0 other first.1 e) s)
 
 elsewhere_literal : (bytes p q r rest : List ℕ) → bytes ≡ 38 ∷ rest → begins is_literal (p ++ q) ≡ true → bytes ≡ p ++ r → (p ≡ []) × (q ≢ [])
 elsewhere_literal bytes [] [] r rest mark first e = absurd (false≢true first)
@@ -238,7 +237,7 @@ elsewhere_literal bytes (b ∷ p) q r rest mark first e =
 pub mark_stops : (bytes rest : List ℕ) (n : ℕ) → bytes ≡ 38 ∷ rest → StopsAt IsSomeReference bytes n → StopsAt IsSomeUnit bytes n
 mark_stops bytes rest n mark s =
     stops_same bytes n (λ x h. literal_unit x (flip x h)) (λ x u. flip_back x (unit_literal u.0 x u.1))
-      (stops_beside bytes n (λ p q r d e. elsewhere_literal bytes p q r rest mark d.first e) s)
+    (stops_beside bytes n (λ p q r d e. elsewhere_literal bytes p q r rest mark d.first e) s)
 
 -- ---- the loop
 
@@ -282,18 +281,18 @@ spells_more bytes text middle new rest end dark spells pushes gaps outside other
   front = spells.front ++ (pushes.unit ++ gaps.gap);
   are = spells.are ∙ ap (λ t. spells.front ++ t) (pushes.are ∙ ap (λ t. pushes.unit ++ t) gaps.are ∙ sym (append_assoc pushes.unit gaps.gap dark)) ∙ sym (append_assoc spells.front (pushes.unit ++ gaps.gap) dark);
   into = λ t y u.
-    let behind : IsRest (gaps.gap ++ (u.here ++ u.others)) (gaps.gap ++ (u.unit ++ u.rest)) = goes gaps.gap u.here u.unit u.others u.rest gaps.is u.is u.behind refl refl in
-    let units : IsUnits (pushes.here ++ (gaps.gap ++ (u.here ++ u.others))) (pushes.unit ++ (gaps.gap ++ (u.unit ++ u.rest))) =
+      let behind : IsRest (gaps.gap ++ (u.here ++ u.others)) (gaps.gap ++ (u.unit ++ u.rest)) = goes gaps.gap u.here u.unit u.others u.rest gaps.is u.is u.behind refl refl in
+      let units : IsUnits (pushes.here ++ (gaps.gap ++ (u.here ++ u.others))) (pushes.unit ++ (gaps.gap ++ (u.unit ++ u.rest))) =
       record { here = pushes.here; unit = pushes.unit; others = gaps.gap ++ (u.here ++ u.others); rest = gaps.gap ++ (u.unit ++ u.rest); is = pushes.is; behind = behind; are = refl; text_is = refl } in
-    let whole = spells.into (pushes.here ++ (gaps.gap ++ (u.here ++ u.others))) (pushes.unit ++ (gaps.gap ++ (u.unit ++ u.rest))) units in
-    let text_eq : text ++ (pushes.here ++ (gaps.gap ++ (u.here ++ u.others))) ≡ new ++ t =
+      let whole = spells.into (pushes.here ++ (gaps.gap ++ (u.here ++ u.others))) (pushes.unit ++ (gaps.gap ++ (u.unit ++ u.rest))) units in
+      let text_eq : text ++ (pushes.here ++ (gaps.gap ++ (u.here ++ u.others))) ≡ new ++ t =
       ap (λ k. text ++ (pushes.here ++ (gaps.gap ++ k))) (sym u.text_is) ∙ sym (append_assoc text pushes.here (gaps.gap ++ t)) ∙ ap (λ k. k ++ (gaps.gap ++ t)) (sym pushes.new_is) ∙ sym (append_assoc middle gaps.gap t) ∙ ap (λ k. k ++ t) (sym gaps.new_is) in
-    let bytes_eq : spells.front ++ (pushes.unit ++ (gaps.gap ++ (u.unit ++ u.rest))) ≡ (spells.front ++ (pushes.unit ++ gaps.gap)) ++ y =
+      let bytes_eq : spells.front ++ (pushes.unit ++ (gaps.gap ++ (u.unit ++ u.rest))) ≡ (spells.front ++ (pushes.unit ++ gaps.gap)) ++ y =
       ap (λ k. spells.front ++ (pushes.unit ++ (gaps.gap ++ k))) (sym u.are) ∙ ap (λ k. spells.front ++ k) (sym (append_assoc pushes.unit gaps.gap y)) ∙ sym (append_assoc spells.front (pushes.unit ++ gaps.gap) y) in
-    subst (λ k. IsText k ((spells.front ++ (pushes.unit ++ gaps.gap)) ++ y)) text_eq (subst (IsText (text ++ (pushes.here ++ (gaps.gap ++ (u.here ++ u.others))))) bytes_eq whole);
+      subst (λ k. IsText k ((spells.front ++ (pushes.unit ++ gaps.gap)) ++ y)) text_eq (subst (IsText (text ++ (pushes.here ++ (gaps.gap ++ (u.here ++ u.others))))) bytes_eq whole);
   stops = λ n s.
-    let unit : Reads IsSomeUnit rest end = record { front = pushes.unit; are = pushes.are; is = (pushes.here, pushes.is) } in
-    spells.stops n (units_behind rest end n unit (rest_behind end gaps.gap dark n gaps.are gaps.is outside other s));
+      let unit : Reads IsSomeUnit rest end = record { front = pushes.unit; are = pushes.are; is = (pushes.here, pushes.is) } in
+      spells.stops n (units_behind rest end n unit (rest_behind end gaps.gap dark n gaps.are gaps.is outside other s));
 }
 
 -- the end behind a unit
@@ -301,7 +300,7 @@ pub spells_end : (bytes text new rest end white dark behind : List ℕ) → Spel
 spells_end bytes text new rest end white dark behind spells pushes are is less =
     let last = white ++ codes "<" in
     let units : IsUnits (pushes.here ++ []) (pushes.unit ++ last) =
-      record { here = pushes.here; unit = pushes.unit; others = []; rest = last; is = pushes.is; behind = ends white is refl refl; are = refl; text_is = refl } in
+    record { here = pushes.here; unit = pushes.unit; others = []; rest = last; is = pushes.is; behind = ends white is refl refl; are = refl; text_is = refl } in
     let text_eq : text ++ (pushes.here ++ []) ≡ new = ap (λ k. text ++ k) (append-nil pushes.here) ∙ sym pushes.new_is in
     let end_is : end ≡ last ++ behind = are ∙ ap (λ t. white ++ t) less ∙ sym (append_assoc white (codes "<") behind) in
     record {
@@ -324,16 +323,16 @@ spells_stop_behind bytes text new rest end n spells pushes s =
 some_gap : (gap gap2 w z : List ℕ) → list_all is_gap gap ≡ false → IsWhite gap → IsGap gap2 → BeginsOutside is_white z → gap ++ w ≡ gap2 ++ z → ⊥
 some_gap gap gap2 w z fails white is outside e =
     ⊎_elim
-      (λ h. longer h.0 h.1 h.2)
-      (λ h. false≢true (sym fails ∙ run_front is_gap gap h.0 h.1 gap2 h.2 is))
-      (compare gap gap2 w z e)
+    (λ h. longer h.0 h.1 h.2)
+    (λ h. false≢true (sym fails ∙ run_front is_gap gap h.0 h.1 gap2 h.2 is))
+    (compare gap gap2 w z e)
   where
-  longer : (m : List ℕ) → gap ≡ gap2 ++ m → z ≡ m ++ w → ⊥
-  longer [] a b = false≢true (sym fails ∙ subst IsGap (sym (a ∙ append-nil gap2)) is)
-  longer (c ∷ m) a b =
-    let whole : outside.0 ∷ outside.1 ≡ c ∷ (m ++ w) = sym outside.2 ∙ b in
-    let head : outside.0 ≡ c = cc in
-    run_no is_white gap2 c m (subst IsWhite a white) (sym (ap is_white head) ∙ outside.3)
+    longer : (m : List ℕ) → gap ≡ gap2 ++ m → z ≡ m ++ w → ⊥
+    longer [] a b = false≢true (sym fails ∙ subst IsGap (sym (a ∙ append-nil gap2)) is)
+    longer (c ∷ m) a b =
+        let whole : outside.0 ∷ outside.1 ≡ c ∷ (m ++ w) = sym outside.2 ∙ b in
+        let head : outside.0 ≡ c = cc in
+        run_no is_white gap2 c m (subst IsWhite a white) (sym (ap is_white head) ∙ outside.3)
 
 less_stops : (dark : List ℕ) → BeginsOtherwise 60 dark → StopsAt (λ x. x ≡ codes "<") dark (length dark)
 less_stops dark other = record {
@@ -343,9 +342,9 @@ less_stops dark other = record {
   left_is = refl;
   begins = (codes "<", refl);
   apart = λ p q r d e.
-    let far = elsewhere_less dark p q r other d e in
-    let same : length dark ≡ length r = ap length (e ∙ ap (λ t. t ++ r) far.0) in
-    (omega (arith, same), far.1);
+      let far = elsewhere_less dark p q r other d e in
+      let same : length dark ≡ length r = ap length (e ∙ ap (λ t. t ++ r) far.0) in
+      (omega (arith, same), far.1);
 }
 
 less_outside : (x : List ℕ) → x ≡ codes "<" → BeginsOutside is_white x
@@ -361,12 +360,12 @@ return_apart bytes gap dark text p q r x are white fails outside other x_is (goe
     let begins_out : BeginsOutside is_white (unit ++ rest) = (first.0, first.1 ++ rest, ap (λ t. t ++ rest) first.2, first.3) in
     let whole : p ++ q ≡ gap2 ++ (unit ++ rest) = sym x_is ∙ run_are in
     ⊎_elim
-      (λ h. absurd (some_gap gap gap2 (h.0 ++ q) (unit ++ rest) fails white is begins_out (sym (append_assoc gap h.0 q) ∙ ap (λ t. t ++ q) (sym h.1) ∙ whole)))
-      (λ h.
-        let long = ap length h.3 in
-        let more = length-append h.1 dark in
-        (omega (arith, long, more), run_ends is_white p gap2 (unit ++ rest) q (run_front is_white p h.0 h.1 gap h.2 white) whole begins_out))
-      (compare p gap r dark (sym e ∙ are))
+    (λ h. absurd (some_gap gap gap2 (h.0 ++ q) (unit ++ rest) fails white is begins_out (sym (append_assoc gap h.0 q) ∙ ap (λ t. t ++ q) (sym h.1) ∙ whole)))
+    (λ h.
+    let long = ap length h.3 in
+    let more = length-append h.1 dark in
+    (omega (arith, long, more), run_ends is_white p gap2 (unit ++ rest) q (run_front is_white p h.0 h.1 gap h.2 white) whole begins_out))
+    (compare p gap r dark (sym e ∙ are))
 
 -- a CR among the white bytes, and no end tag behind them
 pub return_stops : (bytes gap dark : List ℕ) → bytes ≡ gap ++ dark → IsWhite gap → list_all is_gap gap ≡ false → IsOutside is_white dark → BeginsOtherwise 60 dark → StopsAt IsSomeRest bytes (length dark)
@@ -419,9 +418,10 @@ rest_once t u x y r s (goes gap here unit others rest gap_is unit_is behind run_
     let inner = behind_same gap gap2 (unit ++ (rest ++ r)) (unit2 ++ (rest2 ++ s)) once.0 whole in
     let same = unit_once here here2 unit unit2 (rest ++ r) (rest2 ++ s) unit_is unit_is2 inner in
     let last = behind_same unit unit2 (rest ++ r) (rest2 ++ s) same.1 inner in
-    let next = rest_once others others2 rest rest2 r s behind behind2 last in
-    (text_is ∙ ap (λ g. g ++ (here ++ others)) once.0 ∙ ap (λ h. gap2 ++ (h ++ others)) same.0 ∙ ap (λ o. gap2 ++ (here2 ++ o)) next.0 ∙ sym text_is2,
-     run_are ∙ ap (λ g. g ++ (unit ++ rest)) once.0 ∙ ap (λ h. gap2 ++ (h ++ rest)) same.1 ∙ ap (λ o. gap2 ++ (unit2 ++ o)) next.1 ∙ sym run_are2)
+    let next = rest_once others others2 rest rest2 r s behind behind2 last in (
+      text_is ∙ ap (λ g. g ++ (here ++ others)) once.0 ∙ ap (λ h. gap2 ++ (h ++ others)) same.0 ∙ ap (λ o. gap2 ++ (here2 ++ o)) next.0 ∙ sym text_is2,
+      run_are ∙ ap (λ g. g ++ (unit ++ rest)) once.0 ∙ ap (λ h. gap2 ++ (h ++ rest)) same.1 ∙ ap (λ o. gap2 ++ (unit2 ++ o)) next.1 ∙ sym run_are2,
+    )
 
 units_once : (t u x y r s : List ℕ) → IsUnits t x → IsUnits u y → x ++ r ≡ y ++ s → (t ≡ u) × (x ≡ y)
 units_once t u x y r s a b e =

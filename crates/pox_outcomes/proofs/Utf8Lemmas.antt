@@ -1,5 +1,5 @@
 -- Allowed characters are UTF-8.
-use Rattle.std.proofs.Common.{◌≡◌, ℕ, zero, suc, ◌+◌, ◌-◌, ◌*◌, ◌/◌, ◌%◌, ◌<◌, ◌≤◌, ◌⊎◌, inl, inr, ⊎_elim, Bool, true, false, ◌&&◌, List, [], ◌∷◌, ◌++◌, length, take, length-append, refl, sym, ap, ap₂, ◌∙◌, subst, arith, append-nil, lt-ltb, le-ltb}
+use Rattle.std.proofs.Common.{◌≡◌, ℕ, zero, suc, ◌+◌, ◌-◌, ◌*◌, ◌/◌, ◌%◌, ◌<◌, ◌≤◌, ◌⊎◌, inl, inr, ⊎_elim, true, List, [], ◌∷◌, ◌++◌, length, take, length-append, sym, ap, ap₂, ◌∙◌, subst, arith, lt-ltb, le-ltb}
 use Rattle.std.specs.Char.{IsScalar, encode_utf8}
 use Rattle.std.specs.Str.{IsUtf8}
 use Rattle.std.proofs.lemmas.Bool.{cond-true, cond-false}
@@ -8,9 +8,8 @@ use Rattle.std.proofs.lemmas.Str.{IsUtf8-encode, IsUtf8-append, IsUtf8-nil, enco
 use Rattle.std.specs.List.{list_all}
 use Rattle.std.proofs.lemmas.List.{take_at}
 use Rattle.lti_outside.proofs.BoolLemmas.{and_split}
-use Rattle.pox_outcomes.specs.Language.{Then}
 use Rattle.pox_outcomes.specs.Texts.{is_gap, IsGap}
-use Rattle.pox_outcomes.specs.Characters.{is_within, IsByteIn, IsRow, row_at, rows, IsCharacter, is_allowed}
+use Rattle.pox_outcomes.specs.Characters.{is_within, IsRow, row_at, rows, IsCharacter, is_allowed}
 
 pub encode_two : (c : ℕ) → 0x80 ≤ c → c < 0x800 → encode_utf8 c ≡ (192 + c / 64) ∷ (128 + c % 64) ∷ []
 unfolding encode_utf8
@@ -65,7 +64,7 @@ utf8_four a b d f la ha lb hb ld hd lf hf least most =
     let e2 : 128 + (c / 64) % 64 ≡ d = omega arith in
     let e3 : 128 + c % 64 ≡ f = omega arith in
     let whole : encode_utf8 c ≡ a ∷ b ∷ d ∷ f ∷ [] =
-      encode_four c least ∙ ap₂ (λ x y. x ∷ y ∷ (128 + (c / 64) % 64) ∷ (128 + c % 64) ∷ []) e0 e1 ∙ ap₂ (λ x y. a ∷ b ∷ x ∷ y ∷ []) e2 e3 in
+    encode_four c least ∙ ap₂ (λ x y. x ∷ y ∷ (128 + (c / 64) % 64) ∷ (128 + c % 64) ∷ []) e0 e1 ∙ ap₂ (λ x y. a ∷ b ∷ x ∷ y ∷ []) e2 e3 in
     subst IsUtf8 whole (IsUtf8-encode c (high_scalar c (omega arith) most))
 
 -- the bytes of a row, one by one
@@ -105,8 +104,8 @@ row_three l0 h0 l1 h1 l2 h2 x a b d f g k least side h =
     let low0 = one.0 in let high0 = one.1 in let low1 = two.0 in let high1 = two.1 in let low2 = three.0 in let high2 = three.1 in
     let c = (r.0 - 224) * 4096 + (r.1 - 128) * 64 + (r.2 - 128) in
     let scalar : IsScalar c = ⊎_elim
-      (λ (s : (h0 - 224) * 4096 + (h1 - 128) * 64 + 63 < 0xD800). low_scalar c (omega arith))
-      (λ (s : 0xE000 ≤ (l0 - 224) * 4096 + (l1 - 128) * 64). high_scalar c (omega arith) (omega arith)) side in
+    (λ (s : (h0 - 224) * 4096 + (h1 - 128) * 64 + 63 < 0xD800). low_scalar c (omega arith))
+    (λ (s : 0xE000 ≤ (l0 - 224) * 4096 + (l1 - 128) * 64). high_scalar c (omega arith) (omega arith)) side in
     subst IsUtf8 (sym r.3) (utf8_three r.0 r.1 r.2 (omega arith) (omega arith) (omega arith) (omega arith) (omega arith) (omega arith) (omega arith) scalar)
 
 row_four : (l0 h0 l1 h1 : ℕ) (x : List ℕ) → 240 ≤ l0 → h0 ≤ 244 → 128 ≤ l1 → h1 ≤ 191 → 0x10000 ≤ (l0 - 240) * 262144 + (l1 - 128) * 4096

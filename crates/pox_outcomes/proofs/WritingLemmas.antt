@@ -1,11 +1,11 @@
 -- Texts as they are written.
-use Rattle.std.proofs.Common.{◌≡◌, ◌≢◌, ℕ, suc, ◌+◌, ◌-◌, ◌<◌, ◌≤◌, Bool, true, false, ◌||◌, ◌==◌, List, [], ◌∷◌, ◌++◌, length, take, drop, get_or, append_assoc, append-nil, refl, sym, ap, ◌∙◌, subst, arith, drop-cons, add-one, length-drop}
+use Rattle.std.proofs.Common.{◌≡◌, ℕ, ◌+◌, ◌-◌, ◌<◌, ◌≤◌, Bool, true, false, ◌||◌, ◌==◌, List, [], ◌∷◌, ◌++◌, length, drop, get_or, append_assoc, append-nil, refl, sym, ap, ◌∙◌, subst, arith, drop-cons, add-one, length-drop}
 use Rattle.std.proofs.lemmas.List.{drop_all}
+use Rattle.std.proofs.lemmas.Bool.{false≢true}
 use Rattle.std.proofs.lemmas.Bool.Decides.{nat_tests}
 use Rattle.pox_outcomes.specs.Language.{StopsAt, Reads}
 use Rattle.pox_outcomes.specs.Characters.{IsCharacter}
 use Rattle.pox_outcomes.specs.Written.{IsXmlText, none, one, escape_byte, escape_from, escape_text}
-use Rattle.pox_outcomes.proofs.LanguageLemmas.{compare}
 use Rattle.pox_outcomes.proofs.TextLemmas.{behind_same}
 use Rattle.pox_outcomes.proofs.CharacterLemmas.{free_character}
 
@@ -62,14 +62,24 @@ writing_more text old out next at b edge within b_is edge_is next_is so_far =
     let last : (at + 1 == length text) ≡ (length (drop (at + 1) text) == 0) = last_test (at + 1) (length text) (length (drop (at + 1) text)) (omega arith) long in
     let edge_too : edge ≡ ((at == 0) || (length (drop (at + 1) text) == 0)) = edge_is ∙ ap (λ t. (at == 0) || t) last in
     let here : escape_from (at == 0) (drop at text) ≡ escape_byte edge b ++ escape_from (at + 1 == 0) (drop (at + 1) text) =
-      ap (escape_from (at == 0)) step ∙ escape_from-cons (at == 0) b (drop (at + 1) text) ∙ ap (λ t. escape_byte t b ++ escape_from false (drop (at + 1) text)) (sym edge_too)
-      ∙ ap (λ t. escape_byte edge b ++ escape_from t (drop (at + 1) text)) (sym (zero_next at)) in
+    ap (escape_from (at == 0)) step ∙ escape_from-cons (at == 0) b (drop (at + 1) text) ∙ ap (λ t. escape_byte t b ++ escape_from false (drop (at + 1) text)) (sym edge_too)
+    ∙ ap (λ t. escape_byte edge b ++ escape_from t (drop (at + 1) text)) (sym (zero_next at)) in
     ap (λ t. t ++ escape_from (at + 1 == 0) (drop (at + 1) text)) next_is ∙ append_assoc out (escape_byte edge b) (escape_from (at + 1 == 0) (drop (at + 1) text)) ∙ ap (λ t. out ++ t) (sym here) ∙ so_far
   where
-  last_test : (m n k : ℕ) → m ≤ n → k ≡ n - m → (m == n) ≡ (k == 0)
-  last_test m n k most is = grind (arith, nat_tests)
+    last_test : (m n k : ℕ) → m ≤ n → k ≡ n - m → (m == n) ≡ (k == 0)
+    last_test m n k most is = grind (arith, nat_tests)
 
 pub writing_end : (text old out : List ℕ) (at : ℕ) → length text ≤ at → IsWriting text old at out → out ≡ old ++ escape_text text
 writing_end text old out at past so_far =
     let done : drop at text ≡ [] = drop_all at text past in
     sym (append-nil out) ∙ ap (λ t. out ++ t) (sym (escape_from-nil (at == 0))) ∙ ap (λ t. out ++ escape_from (at == 0) t) (sym done) ∙ so_far
+
+pub not_nil : (rest : List ℕ) → (length rest == 0) ≡ false → rest ≡ [] → ⊥
+not_nil [] e z = false≢true (sym e)
+not_nil (b ∷ rest) e z = absurd (cc)
+
+pub is_nil : (rest : List ℕ) → (length rest == 0) ≡ true → rest ≡ []
+is_nil [] e = refl
+is_nil (b ∷ rest) e =
+    let long : (length (b ∷ rest) == 0) ≡ false = grind (arith, nat_tests) in
+    absurd (false≢true (sym long ∙ e))

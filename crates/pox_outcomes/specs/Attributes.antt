@@ -1,9 +1,9 @@
 -- The attributes of the root element (XML 1.0, sections 2.3 and 3.1).
-use Rattle.std.specs.Prelude.{◌≡◌, ℕ, ◌<◌, Bool, true, false, not, ◌||◌, ◌==◌, List, [], ◌∷◌, ◌++◌, slice_index, codes, if◌then◌else◌}
+use Rattle.std.specs.Prelude.{◌≡◌, ℕ, ◌<◌, Bool, true, not, ◌||◌, ◌==◌, List, [], ◌∷◌, ◌++◌, codes, if◌then◌else◌}
 use Rattle.std.specs.Char.{is_ascii_alphabetic, is_ascii_alphanumeric}
 use Rattle.std.specs.List.{list_all}
 use Rattle.std.specs.Str.{bytes_eq}
-use Rattle.pox_outcomes.specs.Language.{Then, ◌▸◌}
+use Rattle.pox_outcomes.specs.Language.{◌▸◌}
 use Rattle.pox_outcomes.specs.Markup.{is_white, IsWhite, IsMarkup, word_at}
 use Rattle.pox_outcomes.specs.Characters.{begins, IsCharacterBy}
 
@@ -58,7 +58,7 @@ is_xmlns name = bytes_eq name (codes "xmlns")
 pub data IsAttributes : Bool → List ℕ → Type 0 where
   ends : {seen : Bool} {bytes : List ℕ} → seen ≡ true → IsMarkup (codes " >") bytes → IsAttributes seen bytes
   goes : {seen : Bool} {bytes : List ℕ} (white name attribute rest : List ℕ) → IsWhite white → begins is_white white ≡ true → IsAttribute name attribute
-    → IsAttributes (seen || is_xmlns name) rest → bytes ≡ white ++ (attribute ++ rest) → IsAttributes seen bytes
+      → IsAttributes (seen || is_xmlns name) rest → bytes ≡ white ++ (attribute ++ rest) → IsAttributes seen bytes
 
 -- an attribute stands before the rest
 pub record ReadsAttribute (bytes : List ℕ) (namespace : Bool) (rest : List ℕ) : Type 0 where

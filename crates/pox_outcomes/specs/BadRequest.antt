@@ -1,6 +1,5 @@
 -- What a fault says of the bytes of a request.
-use Rattle.std.specs.Prelude.{◌≡◌, ℕ, ◌≤◌, List, ◌++◌, take, length, ⊤}
-use Rattle.pox_outcomes.specs.Language.{Any, IsFront}
+use Rattle.std.specs.Prelude.{ℕ, ◌≤◌, List, ◌++◌, take, length, ⊤}
 use Rattle.pox_outcomes.specs.Request.{EnvelopeOf}
 use Rattle.pox_outcomes.specs.declared.faults.EnvelopeFault.{EnvelopeFault}
 use Rattle.pox_outcomes.specs.declared.faults.EnvelopeFault.TheVariants.{BadEnvelope, NoMemory}

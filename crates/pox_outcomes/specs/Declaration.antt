@@ -1,6 +1,6 @@
 -- The XML declaration, and the start of the root element (XML 1.0, sections 2.8, 2.9 and 4.3.3).
 use Rattle.std.specs.Prelude.{◌≡◌, ℕ, true, List, [], ◌∷◌, ◌⊎◌, ◌<◌, ◌==◌, MatchBool, codes}
-use Rattle.pox_outcomes.specs.Language.{Then, ◌▸◌}
+use Rattle.pox_outcomes.specs.Language.{◌▸◌}
 use Rattle.pox_outcomes.specs.Markup.{is_white, IsMarkup, IsOneOf, word_at}
 
 abbrev pub IsOneWhite : List ℕ → Type 0

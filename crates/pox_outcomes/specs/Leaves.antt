@@ -1,6 +1,6 @@
 -- Elements that hold a text (XML 1.0, sections 3.1 and 4.1).
 use Rattle.std.specs.Prelude.{◌≡◌, ℕ, List, [], ◌∷◌, ◌⊎◌, codes}
-use Rattle.pox_outcomes.specs.Language.{Then, ◌▸◌}
+use Rattle.pox_outcomes.specs.Language.{◌▸◌}
 use Rattle.pox_outcomes.specs.Markup.{IsMarkup}
 use Rattle.pox_outcomes.specs.Texts.{IsText}
 

@@ -2,7 +2,7 @@
 use Rattle.std.specs.Prelude.{◌≡◌, ℕ, ◌+◌, ◌*◌, ◌<◌, ◌≤◌, Bool, true, ◌==◌, nat_lt, List, [], ◌∷◌, ◌++◌, slice_index, MatchBool, codes, ◌⊎◌}
 use Rattle.std.specs.Char.{digit_value}
 use Rattle.std.specs.List.{list_all}
-use Rattle.pox_outcomes.specs.Language.{Then, ◌▸◌}
+use Rattle.pox_outcomes.specs.Language.{◌▸◌}
 use Rattle.pox_outcomes.specs.Markup.{IsMarkup, word_at}
 use Rattle.pox_outcomes.specs.Characters.{is_allowed}
 

@@ -1,6 +1,6 @@
 -- Outcome requests (LTI 1.1.1, section 6, and the schema imsoms_v1p0). In markup a space stands for any white bytes.
-use Rattle.std.specs.Prelude.{◌≡◌, ℕ, true, false, List, [], ◌∷◌, ◌++◌, ◌⊎◌, ◌<◌, ◌==◌, MatchBool, codes}
-use Rattle.pox_outcomes.specs.Language.{Then, ◌▸◌, Any}
+use Rattle.std.specs.Prelude.{◌≡◌, ℕ, false, List, [], ◌∷◌, ◌⊎◌, codes}
+use Rattle.pox_outcomes.specs.Language.{◌▸◌, Any}
 use Rattle.pox_outcomes.specs.Markup.{IsWhite, IsMarkup, word_at}
 use Rattle.pox_outcomes.specs.Attributes.{IsAttributes}
 use Rattle.pox_outcomes.specs.Declaration.{IsOpening}

@@ -1,8 +1,8 @@
 -- The text of an element (XML 1.0, sections 2.2, 2.4 and 4.1).
-use Rattle.std.specs.Prelude.{◌≡◌, ℕ, Bool, true, false, not, ◌||◌, ◌&&◌, ◌==◌, List, [], ◌∷◌, ◌++◌, ◌⊎◌, codes, encode_utf8}
+use Rattle.std.specs.Prelude.{◌≡◌, ℕ, Bool, true, not, ◌||◌, ◌==◌, List, [], ◌++◌, ◌⊎◌, codes, encode_utf8}
 use Rattle.std.specs.List.{list_all}
-use Rattle.pox_outcomes.specs.Language.{Then, ◌▸◌}
-use Rattle.pox_outcomes.specs.Markup.{is_white, IsWhite, IsMarkup}
+use Rattle.pox_outcomes.specs.Language.{◌▸◌}
+use Rattle.pox_outcomes.specs.Markup.{is_white, IsWhite}
 use Rattle.pox_outcomes.specs.Characters.{IsCharacterBy}
 use Rattle.pox_outcomes.specs.References.{IsReference}
 

@@ -1,4 +1,9 @@
-//! Outcome envelopes.
+//! Outcome envelopes: the XML of the Basic Outcomes service, read and written (LTI 1.1.1, section 6, and the
+//! schema imsoms_v1p0).
+//!
+//! A closed grammar of the bytes says which envelopes there are; `specs/` states it apart from the reader.
+//! Promised: an envelope is read as exactly the outcome that it spells, and bytes that are no envelope are
+//! refused with the number of them that begin one. A request is written as one exact text.
 #![tactic(auto)]
 
 mod attributes;

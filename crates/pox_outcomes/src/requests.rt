@@ -19,7 +19,8 @@ use std::alloc::Global;
 
 const ROOT: &[u8] = b" <imsx_POXEnvelopeRequest";
 
-const HEADER: &[u8] = b" <imsx_POXHeader > <imsx_POXRequestHeaderInfo > <imsx_version > V1.0 </imsx_version > <imsx_messageIdentifier";
+const HEADER: &[u8] =
+    b" <imsx_POXHeader > <imsx_POXRequestHeaderInfo > <imsx_version > V1.0 </imsx_version > <imsx_messageIdentifier";
 
 // From behind the message identifier up to the id, for each operation.
 const OPERATIONS: [&[u8]; 3] = [
@@ -34,11 +35,14 @@ const SCORES: [&[u8]; 2] = [
     b" </sourcedGUID > <result > <resultScore > <textString",
 ];
 
-const REPLACE_END: &[u8] = b" </resultScore > </result > </resultRecord > </replaceResultRequest > </imsx_POXBody > </imsx_POXEnvelopeRequest >";
+const REPLACE_END: &[u8] =
+    b" </resultScore > </result > </resultRecord > </replaceResultRequest > </imsx_POXBody > </imsx_POXEnvelopeRequest >";
 
-const READ_END: &[u8] = b" </sourcedGUID > </resultRecord > </readResultRequest > </imsx_POXBody > </imsx_POXEnvelopeRequest >";
+const READ_END: &[u8] =
+    b" </sourcedGUID > </resultRecord > </readResultRequest > </imsx_POXBody > </imsx_POXEnvelopeRequest >";
 
-const DELETE_END: &[u8] = b" </sourcedGUID > </resultRecord > </deleteResultRequest > </imsx_POXBody > </imsx_POXEnvelopeRequest >";
+const DELETE_END: &[u8] =
+    b" </sourcedGUID > </resultRecord > </deleteResultRequest > </imsx_POXBody > </imsx_POXEnvelopeRequest >";
 
 fn operation_at(place: usize) -> Operation
     requires { place < 3 }
@@ -63,7 +67,11 @@ fn text_string<'a>(alloc: Global, bytes: &'a [u8], closing: &[u8]) -> Result<(Te
 }
 
 // The same behind a language.
-fn behind_language<'a>(alloc: Global, bytes: &'a [u8], closing: &[u8]) -> Result<(Text, &'a [u8]), Halt>
+fn behind_language<'a>(
+    alloc: Global,
+    bytes: &'a [u8],
+    closing: &[u8],
+) -> Result<(Text, &'a [u8]), Halt>
     requires { is_plain closing.now ≡ true }
     ensures reads { IfOk result (λ found. Reads (IsBehindLanguage closing.now found.0) bytes.now found.1.now) }
     ensures stops { IfErr result (IsHalt (Any (IsBehindLanguage closing.now)) bytes.now) }

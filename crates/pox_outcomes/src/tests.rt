@@ -1,7 +1,10 @@
-use crate::{EnvelopeFault, Operation, read_request};
+use crate::{EnvelopeFault, EnvelopeRefusal, Operation, Outcome, read_request, write_request};
+use lti_outside::Text;
 use std::alloc::Global;
+use std::test::Fail;
 
-const REPLACE: &str = "<?xml version=\"1.0\" encoding=\"UTF-8\"?><imsx_POXEnvelopeRequest xmlns=\"http://www.imsglobal.org/services/ltiv1p1/xsd/imsoms_v1p0\"><imsx_POXHeader><imsx_POXRequestHeaderInfo><imsx_version>V1.0</imsx_version><imsx_messageIdentifier>999999123</imsx_messageIdentifier></imsx_POXRequestHeaderInfo></imsx_POXHeader><imsx_POXBody><replaceResultRequest><resultRecord><sourcedGUID><sourcedId>3124567</sourcedId></sourcedGUID><result><resultScore><language>en</language><textString>0.92</textString></resultScore></result></resultRecord></replaceResultRequest></imsx_POXBody></imsx_POXEnvelopeRequest>";
+const REPLACE: &str =
+    "<?xml version=\"1.0\" encoding=\"UTF-8\"?><imsx_POXEnvelopeRequest xmlns=\"http://www.imsglobal.org/services/ltiv1p1/xsd/imsoms_v1p0\"><imsx_POXHeader><imsx_POXRequestHeaderInfo><imsx_version>V1.0</imsx_version><imsx_messageIdentifier>999999123</imsx_messageIdentifier></imsx_POXRequestHeaderInfo></imsx_POXHeader><imsx_POXBody><replaceResultRequest><resultRecord><sourcedGUID><sourcedId>3124567</sourcedId></sourcedGUID><result><resultScore><language>en</language><textString>0.92</textString></resultScore></result></resultRecord></replaceResultRequest></imsx_POXBody></imsx_POXEnvelopeRequest>";
 
 // Whether the bytes are an envelope of the outcome.
 fn reads(alloc: Global, bytes: &[u8], operation: Operation, id: &str, score: &str) -> bool {
@@ -33,16 +36,42 @@ fn spellings_of_envelopes_are_read(rt: HostRuntime) {
         "<?xml version = \"1.0\"?><imsx_POXEnvelopeRequest xmlns=\"\"><imsx_POXHeader><imsx_POXRequestHeaderInfo><imsx_version>V1.0</imsx_version><imsx_messageIdentifier>&#57;99999123</imsx_messageIdentifier></imsx_POXRequestHeaderInfo></imsx_POXHeader><imsx_POXBody><replaceResultRequest><resultRecord><sourcedGUID><sourcedId>312&#x34;56&#x000037;</sourcedId></sourcedGUID><result><resultScore><language>\u{e9}</language><textString>0.92</textString></resultScore></result></resultRecord></replaceResultRequest></imsx_POXBody></imsx_POXEnvelopeRequest>",
     ];
     for spelling in spellings {
-        assert!(rt; reads(rt.alloc(), spelling.as_bytes(), Operation::ReplaceResult, "3124567", "0.92"));
+        assert!(rt;
+            reads(
+                rt.alloc(),
+                spelling.as_bytes(),
+                Operation::ReplaceResult,
+                "3124567",
+                "0.92"
+            )
+        );
     }
 }
 
 #[test]
 fn other_operations_are_read(rt: HostRuntime) {
-    let read = "<imsx_POXEnvelopeRequest xmlns='x'><imsx_POXHeader><imsx_POXRequestHeaderInfo><imsx_version>V1.0</imsx_version><imsx_messageIdentifier>999999123</imsx_messageIdentifier></imsx_POXRequestHeaderInfo></imsx_POXHeader><imsx_POXBody><readResultRequest><resultRecord><sourcedGUID><sourcedId> a &lt;&amp;&gt; \u{20ac}\u{10348} </sourcedId></sourcedGUID></resultRecord></readResultRequest></imsx_POXBody></imsx_POXEnvelopeRequest>";
-    let delete = "<imsx_POXEnvelopeRequest xmlns='x'><imsx_POXHeader><imsx_POXRequestHeaderInfo><imsx_version>V1.0</imsx_version><imsx_messageIdentifier>999999123</imsx_messageIdentifier></imsx_POXRequestHeaderInfo></imsx_POXHeader><imsx_POXBody><deleteResultRequest><resultRecord><sourcedGUID><sourcedId/></sourcedGUID></resultRecord></deleteResultRequest></imsx_POXBody></imsx_POXEnvelopeRequest>";
-    assert!(rt; reads(rt.alloc(), read.as_bytes(), Operation::ReadResult, "a <&> \u{20ac}\u{10348}", ""));
-    assert!(rt; reads(rt.alloc(), delete.as_bytes(), Operation::DeleteResult, "", ""));
+    let read =
+        "<imsx_POXEnvelopeRequest xmlns='x'><imsx_POXHeader><imsx_POXRequestHeaderInfo><imsx_version>V1.0</imsx_version><imsx_messageIdentifier>999999123</imsx_messageIdentifier></imsx_POXRequestHeaderInfo></imsx_POXHeader><imsx_POXBody><readResultRequest><resultRecord><sourcedGUID><sourcedId> a &lt;&amp;&gt; \u{20ac}\u{10348} </sourcedId></sourcedGUID></resultRecord></readResultRequest></imsx_POXBody></imsx_POXEnvelopeRequest>";
+    let delete =
+        "<imsx_POXEnvelopeRequest xmlns='x'><imsx_POXHeader><imsx_POXRequestHeaderInfo><imsx_version>V1.0</imsx_version><imsx_messageIdentifier>999999123</imsx_messageIdentifier></imsx_POXRequestHeaderInfo></imsx_POXHeader><imsx_POXBody><deleteResultRequest><resultRecord><sourcedGUID><sourcedId/></sourcedGUID></resultRecord></deleteResultRequest></imsx_POXBody></imsx_POXEnvelopeRequest>";
+    assert!(rt;
+        reads(
+            rt.alloc(),
+            read.as_bytes(),
+            Operation::ReadResult,
+            "a <&> \u{20ac}\u{10348}",
+            ""
+        )
+    );
+    assert!(rt;
+        reads(
+            rt.alloc(),
+            delete.as_bytes(),
+            Operation::DeleteResult,
+            "",
+            ""
+        )
+    );
 }
 
 #[test]
@@ -77,4 +106,32 @@ fn bytes_behind_the_root_and_a_missing_byte(rt: HostRuntime) {
     long[len] = b'x';
     assert!(rt; is_bad(rt.alloc(), &long[..len + 1], len));
     assert!(rt; is_bad(rt.alloc(), &whole[..len - 1], len - 1));
+}
+
+#[test]
+fn the_envelope_of_an_outcome_is_written(rt: HostRuntime) -> Result<(), Fail> {
+    let outcome = Outcome {
+        message: Text::new(rt.alloc(), "999999123")?,
+        operation: Operation::ReplaceResult,
+        sourced_id: Text::new(rt.alloc(), "3124567")?,
+        score_text: Text::new(rt.alloc(), "0.92")?,
+    };
+    let written = write_request(rt.alloc(), &outcome)?;
+    assert!(rt; written.get() == REPLACE.as_bytes());
+    Ok(())
+}
+
+#[test]
+fn other_characters_are_refused(rt: HostRuntime) -> Result<(), Fail> {
+    let outcome = Outcome {
+        message: Text::new(rt.alloc(), "1")?,
+        operation: Operation::ReadResult,
+        sourced_id: Text::new(rt.alloc(), "\u{1}")?,
+        score_text: Text::empty(rt.alloc()),
+    };
+    match write_request(rt.alloc(), &outcome) {
+        Err(refusal) => assert!(rt; refusal == EnvelopeRefusal::NotXml),
+        Ok(_) => assert!(rt; false),
+    }
+    Ok(())
 }

@@ -96,7 +96,9 @@ fn push_unit<'a>(text: &mut String, bytes: &'a [u8]) -> Result<&'a [u8], Halt>
 fn is_gap(bytes: &[u8]) -> bool
     ensures { result ≡ list_all spec.is_gap bytes.now }
 {
-    bytes.iter().all(|b| *b == b' ' || *b == b'\t' || *b == b'\n')
+    bytes
+        .iter()
+        .all(|b| *b == b' ' || *b == b'\t' || *b == b'\n')
 }
 
 // Appends the white bytes in front, which stand in the middle of a text.

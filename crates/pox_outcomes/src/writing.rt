@@ -1,5 +1,5 @@
 // Writing outcome requests (LTI 1.1.1, section 6, and the schema imsoms_v1p0).
-ghost use Rattle.std.specs.Prelude.{◌≡◌, ◌++◌, ◌||◌, ◌↔◌, Bool, true, IsTrue, OnOk, OnErr, IfOk, IfErr};
+ghost use Rattle.std.specs.Prelude.{◌≡◌, ◌++◌, ◌||◌, ◌==◌, ◌+◌, ◌<◌, ◌↔◌, Bool, true, IsTrue, OnOk, OnErr, IfOk, IfErr};
 ghost use Rattle.pox_outcomes.specs.Refusal.{IsRefusalOf};
 ghost use Rattle.pox_outcomes.specs.Written as spec;
 ghost use Rattle.pox_outcomes.specs.declared.outcome.Operation.TheVariants as asked_for;
@@ -10,7 +10,8 @@ use crate::{EnvelopeRefusal, Operation, Outcome};
 use lti_outside::{Bytes, NoMemory};
 use std::alloc::Global;
 
-const REQUEST_START: &[u8] = b"<?xml version=\"1.0\" encoding=\"UTF-8\"?><imsx_POXEnvelopeRequest xmlns=\"http://www.imsglobal.org/services/ltiv1p1/xsd/imsoms_v1p0\"><imsx_POXHeader><imsx_POXRequestHeaderInfo><imsx_version>V1.0</imsx_version><imsx_messageIdentifier>";
+const REQUEST_START: &[u8] =
+    b"<?xml version=\"1.0\" encoding=\"UTF-8\"?><imsx_POXEnvelopeRequest xmlns=\"http://www.imsglobal.org/services/ltiv1p1/xsd/imsoms_v1p0\"><imsx_POXHeader><imsx_POXRequestHeaderInfo><imsx_version>V1.0</imsx_version><imsx_messageIdentifier>";
 
 // Whether the text holds characters alone that XML 1.0 allows.
 fn is_xml(text: &[u8]) -> bool
@@ -42,12 +43,20 @@ fn escape_byte(out: &mut Bytes, edge: bool, b: u8) -> Result<(), NoMemory>
     }
 }
 
+// Whether the byte at the place is the first or the last one.
+fn is_edge(place: usize, len: usize) -> bool
+    requires { place < len }
+    ensures { result ≡ (place == 0 || place + 1 == len) }
+{
+    place == 0 || place + 1 == len
+}
+
 // Appends the text as it is written.
 fn escape(out: &mut Bytes, text: &[u8]) -> Result<(), NoMemory>
     ensures { OnOk result (out.new.list ≡ out.old.list ++ escape_text text.now) }
 {
     for (place, b) in text.iter().enumerate() {
-        escape_byte(out, place == 0 || place + 1 == text.len(), *b)?;
+        escape_byte(out, is_edge(place, text.len()), *b)?;
     }
     Ok(())
 }
@@ -56,18 +65,28 @@ fn push_asked(out: &mut Bytes, operation: Operation) -> Result<(), NoMemory>
     ensures { OnOk result (out.new.list ≡ out.old.list ++ asked operation) }
 {
     match operation {
-        Operation::ReplaceResult => out.push(b"</imsx_messageIdentifier></imsx_POXRequestHeaderInfo></imsx_POXHeader><imsx_POXBody><replaceResultRequest><resultRecord><sourcedGUID><sourcedId>"),
-        Operation::ReadResult => out.push(b"</imsx_messageIdentifier></imsx_POXRequestHeaderInfo></imsx_POXHeader><imsx_POXBody><readResultRequest><resultRecord><sourcedGUID><sourcedId>"),
-        Operation::DeleteResult => out.push(b"</imsx_messageIdentifier></imsx_POXRequestHeaderInfo></imsx_POXHeader><imsx_POXBody><deleteResultRequest><resultRecord><sourcedGUID><sourcedId>"),
+        Operation::ReplaceResult => out.push(
+            b"</imsx_messageIdentifier></imsx_POXRequestHeaderInfo></imsx_POXHeader><imsx_POXBody><replaceResultRequest><resultRecord><sourcedGUID><sourcedId>",
+        ),
+        Operation::ReadResult => out.push(
+            b"</imsx_messageIdentifier></imsx_POXRequestHeaderInfo></imsx_POXHeader><imsx_POXBody><readResultRequest><resultRecord><sourcedGUID><sourcedId>",
+        ),
+        Operation::DeleteResult => out.push(
+            b"</imsx_messageIdentifier></imsx_POXRequestHeaderInfo></imsx_POXHeader><imsx_POXBody><deleteResultRequest><resultRecord><sourcedGUID><sourcedId>",
+        ),
     }
 }
 
 fn push_replaced(out: &mut Bytes, score: &[u8]) -> Result<(), NoMemory>
     ensures { OnOk result (out.new.list ≡ out.old.list ++ request_end asked_for.ReplaceResult score.now) }
 {
-    out.push(b"</sourcedId></sourcedGUID><result><resultScore><language>en</language><textString>")?;
+    out.push(
+        b"</sourcedId></sourcedGUID><result><resultScore><language>en</language><textString>",
+    )?;
     escape(out, score)?;
-    out.push(b"</textString></resultScore></result></resultRecord></replaceResultRequest></imsx_POXBody></imsx_POXEnvelopeRequest>")?;
+    out.push(
+        b"</textString></resultScore></result></resultRecord></replaceResultRequest></imsx_POXBody></imsx_POXEnvelopeRequest>",
+    )?;
     Ok(())
 }
 
@@ -76,8 +95,12 @@ fn push_end(out: &mut Bytes, operation: Operation, score: &[u8]) -> Result<(), N
 {
     match operation {
         Operation::ReplaceResult => push_replaced(out, score),
-        Operation::ReadResult => out.push(b"</sourcedId></sourcedGUID></resultRecord></readResultRequest></imsx_POXBody></imsx_POXEnvelopeRequest>"),
-        Operation::DeleteResult => out.push(b"</sourcedId></sourcedGUID></resultRecord></deleteResultRequest></imsx_POXBody></imsx_POXEnvelopeRequest>"),
+        Operation::ReadResult => out.push(
+            b"</sourcedId></sourcedGUID></resultRecord></readResultRequest></imsx_POXBody></imsx_POXEnvelopeRequest>",
+        ),
+        Operation::DeleteResult => out.push(
+            b"</sourcedId></sourcedGUID></resultRecord></deleteResultRequest></imsx_POXBody></imsx_POXEnvelopeRequest>",
+        ),
     }
 }
 
@@ -98,7 +121,11 @@ fn request(alloc: Global, outcome: &Outcome) -> Result<Bytes, NoMemory>
     escape(&mut out, outcome.message.get().as_bytes())?;
     push_asked(&mut out, outcome.operation)?;
     escape(&mut out, outcome.sourced_id.get().as_bytes())?;
-    push_end(&mut out, outcome.operation, outcome.score_text.get().as_bytes())?;
+    push_end(
+        &mut out,
+        outcome.operation,
+        outcome.score_text.get().as_bytes(),
+    )?;
     Ok(out)
 }
 

@@ -1,7 +1,7 @@
-use Rattle.std.proofs.Common.{◌≡◌, ◌-◌, ◌≤◌, ℕ, List, Bool, true, false, length, take, sym, ap, ◌∙◌, subst, refl, arith, codes}
+use Rattle.std.proofs.Common.{◌≡◌, ◌-◌, ◌≤◌, ℕ, List, length, take, sym, ap, ◌∙◌, subst, codes}
 use Rattle.pox_outcomes.specs.Language.{Any, Reads, StopsAt}
-use Rattle.pox_outcomes.specs.Markup.{IsMarkup, word_at}
-use Rattle.pox_outcomes.specs.Attributes.{after_name, is_xmlns, IsAttribute, IsValue, quote_at}
+use Rattle.pox_outcomes.specs.Markup.{IsMarkup}
+use Rattle.pox_outcomes.specs.Attributes.{after_name, is_xmlns, IsAttribute, IsValue}
 use Rattle.pox_outcomes.specs.Stops.{IsStop}
 use Rattle.pox_outcomes.proofs.CarriedLemmas.{carried}
 use Rattle.pox_outcomes.proofs.Utf8Lemmas.{front_taken, rest_fits}
@@ -33,7 +33,7 @@ returns-in_err-place-clause-stops c =
     let stop = c.in_err-place.field-0.0 in
     let equals = subst (λ (t : List ℕ). Reads (IsMarkup (codes " =")) t rest) c.after_name-behind.ensures c.in_ok-rest.ensures.reads in
     carried (IsStop (Any IsAttribute) bytes) c.from_residual-in_err-place.result stop c.from_residual-in_err-place.ensures.1
-      (attribute_stops_value bytes start rest stop.left equals (quoted_stops rest stop.left c.in_err-place.ensures.stops))
+    (attribute_stops_value bytes start rest stop.left equals (quoted_stops rest stop.left c.in_err-place.ensures.stops))
 
 pub after_value-requires : goal.after_value-requires
 after_value-requires c = subst IsQuote (sym c.quote_at.ensures) (quote_is c.in_ok-place.place c.in_ok-place.ensures.place)
@@ -48,7 +48,7 @@ returns-in_err-rest-2-clause-stops c =
     let equals = subst (λ (t : List ℕ). Reads (IsMarkup (codes " =")) t rest) c.after_name-behind.ensures c.in_ok-rest.ensures.reads in
     let value = subst (λ (q : ℕ). StopsAt (IsValue q) last stop.left) c.quote_at.ensures c.in_err-rest-2.ensures.stops in
     carried (IsStop (Any IsAttribute) bytes) c.from_residual-in_err-rest-2.result stop c.from_residual-in_err-rest-2.ensures.1
-      (attribute_stops_value bytes start rest stop.left equals (quoted_behind c.in_ok-place.place rest last stop.left c.in_ok-place.ensures.place c.in_ok-place.ensures.reads value))
+    (attribute_stops_value bytes start rest stop.left equals (quoted_behind c.in_ok-place.place rest last stop.left c.in_ok-place.ensures.place c.in_ok-place.ensures.reads value))
 
 pub returns-clause-reads : goal.returns-clause-reads
 returns-clause-reads c =
@@ -61,5 +61,5 @@ returns-clause-reads c =
     let equals = subst (λ (t : List ℕ). Reads (IsMarkup (codes " =")) t rest) c.after_name-behind.ensures c.in_ok-rest.ensures.reads in
     let value = subst (λ (q : ℕ). Reads (IsValue q) last behind) c.quote_at.ensures c.in_ok-rest-2.ensures.reads in
     let taken : take (length bytes - length c.after_name-behind.result.now) bytes ≡ named.name =
-      ap (λ (t : List ℕ). take (length bytes - length t) bytes) c.after_name-behind.ensures ∙ front_taken bytes named.name (after_name bytes) named.are in
+    ap (λ (t : List ℕ). take (length bytes - length t) bytes) c.after_name-behind.ensures ∙ front_taken bytes named.name (after_name bytes) named.are in
     attribute_reads bytes start rest last behind c.in_ok-place.place c.is_xmlns-namespace.result c.in_ok-place.ensures.place (c.is_xmlns-namespace.ensures ∙ ap is_xmlns taken) equals c.in_ok-place.ensures.reads value

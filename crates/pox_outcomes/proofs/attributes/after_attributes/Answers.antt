@@ -1,7 +1,6 @@
-use Rattle.std.proofs.Common.{◌≡◌, ◌++◌, ◌+◌, ◌<◌, ◌||◌, ℕ, List, Bool, true, false, length, sym, ap, ◌∙◌, subst, arith, length-append}
-use Rattle.pox_outcomes.specs.Language.{Any, StopsAt}
+use Rattle.std.proofs.Common.{◌++◌, ℕ, List, Bool, false, length, sym, ap, ◌∙◌, subst, arith, length-append}
 use Rattle.pox_outcomes.specs.Markup.{is_white, after_white}
-use Rattle.pox_outcomes.specs.Attributes.{IsAttribute, IsAttributes, ReadsAttribute}
+use Rattle.pox_outcomes.specs.Attributes.{IsAttributes}
 use Rattle.pox_outcomes.specs.Stops.{IsStop}
 use Rattle.pox_outcomes.proofs.CarriedLemmas.{carried}
 use Rattle.pox_outcomes.proofs.MarkupLemmas.{white_of}
@@ -37,7 +36,7 @@ returns-in_err-namespace-clause-stops c =
     let some_white = some_white_run rest w.run dark are w.is c.if-dark-rest.false in
     let stop = c.in_err-namespace.field-0.0 in
     carried (IsStop (IsAttributes false) c.args.bytes.now) c.from_residual.result stop c.from_residual.ensures.1
-      (c.attributes.invariant.stops stop.left (attributes_stop c.attributes.seen rest w.run dark stop.left are w.is some_white outside c.in_default.ensures c.in_err-namespace.ensures.stops))
+    (c.attributes.invariant.stops stop.left (attributes_stop c.attributes.seen rest w.run dark stop.left are w.is some_white outside c.in_default.ensures c.in_err-namespace.ensures.stops))
 
 pub attributes-smaller : goal.attributes-smaller
 attributes-smaller c =
@@ -60,4 +59,4 @@ attributes-preserved c =
     let some_white = some_white_run rest w.run dark are w.is c.if-dark-rest.false in
     let behind = c.in_ok-namespace.behind.now in
     subst (λ (t : Bool). Along c.args.bytes.now t behind) (sym c.either-seen.ensures)
-      (along_more c.args.bytes.now c.attributes.seen c.in_ok-namespace.namespace rest w.run dark behind c.attributes.invariant are w.is some_white outside c.in_ok-namespace.ensures.reads)
+    (along_more c.args.bytes.now c.attributes.seen c.in_ok-namespace.namespace rest w.run dark behind c.attributes.invariant are w.is some_white outside c.in_ok-namespace.ensures.reads)

@@ -1,7 +1,6 @@
 use Rattle.std.proofs.Common.{length}
 use Rattle.pox_outcomes.specs.Attributes.{IsValue}
 use Rattle.pox_outcomes.proofs.LanguageLemmas.{Leads}
-use Rattle.pox_outcomes.proofs.AttributeLemmas.{leads_value}
 use Rattle.pox_outcomes.proofs.attributes.after_value.Given as goal
 
 abbrev pub invariant-characters : goal.invariant-characters

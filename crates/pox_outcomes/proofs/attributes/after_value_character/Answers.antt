@@ -1,4 +1,4 @@
-use Rattle.std.proofs.Common.{◌≡◌, true, false, sym, ◌∙◌, refl}
+use Rattle.std.proofs.Common.{sym, ◌∙◌}
 use Rattle.std.proofs.lemmas.Result.{IfErr-weaker}
 use Rattle.pox_outcomes.specs.Characters.{IsCharacter, IsCharacterBy}
 use Rattle.pox_outcomes.specs.Attributes.{is_value_byte}
@@ -15,4 +15,4 @@ returns-then-not-begins_value-clause-stops c =
 pub returns-clause-stops : goal.returns-clause-stops
 returns-clause-stops c =
     IfErr-weaker c.after_character.result (λ (stop : Left). IsStop IsCharacter c.args.bytes.now stop) (λ (stop : Left). IsStop (IsCharacterBy (is_value_byte c.args.quote)) c.args.bytes.now stop)
-      (λ stop s. by_stops (is_value_byte c.args.quote) c.args.bytes.now stop.left (letter_passes c.args.quote c.requires) (sym c.begins_value.ensures ∙ c.if-not-begins_value.false) s) c.after_character.ensures.stops
+    (λ stop s. by_stops (is_value_byte c.args.quote) c.args.bytes.now stop.left (letter_passes c.args.quote c.requires) (sym c.begins_value.ensures ∙ c.if-not-begins_value.false) s) c.after_character.ensures.stops

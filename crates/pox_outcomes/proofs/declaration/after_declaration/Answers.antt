@@ -11,13 +11,13 @@ pub returns-in_err-last-clause-stops : goal.returns-in_err-last-clause-stops
 returns-in_err-last-clause-stops c =
     let stop = c.in_err-last.field-0.0 in
     carried (IsStop IsDeclaration c.args.bytes.now) c.from_residual.result stop c.from_residual.ensures.1
-      (declaration_stops_version c.args.bytes.now c.in-Some.rest.now stop.left c.in-Some.ensures c.in_err-last.ensures.stops)
+    (declaration_stops_version c.args.bytes.now c.in-Some.rest.now stop.left c.in-Some.ensures c.in_err-last.ensures.stops)
 
 pub returns-in_err-behind-clause-stops : goal.returns-in_err-behind-clause-stops
 returns-in_err-behind-clause-stops c =
     let stop = c.in_err-behind.field-0.0 in
     carried (IsStop IsDeclaration c.args.bytes.now) c.from_residual-in_err-behind.result stop c.from_residual-in_err-behind.ensures.1
-      (declaration_stops_behind c.args.bytes.now c.in-Some.rest.now c.in_ok-last.last.now c.in_ok-last.field-0-0 stop.left c.in-Some.ensures c.in_ok-last.ensures.place c.in_ok-last.ensures.reads c.in_err-behind.ensures.stops)
+    (declaration_stops_behind c.args.bytes.now c.in-Some.rest.now c.in_ok-last.last.now c.in_ok-last.field-0-0 stop.left c.in-Some.ensures c.in_ok-last.ensures.place c.in_ok-last.ensures.reads c.in_err-behind.ensures.stops)
 
 pub returns-clause-reads : goal.returns-clause-reads
 returns-clause-reads c =

@@ -1,11 +1,11 @@
-use Rattle.std.proofs.Common.{◌≡◌, ◌<◌, ℕ, List, subst, arith, codes}
-use Rattle.pox_outcomes.specs.Language.{StopsAt, Any, Reads}
+use Rattle.std.proofs.Common.{◌≡◌, ℕ, subst, arith}
+use Rattle.pox_outcomes.specs.Language.{Any, Reads}
 use Rattle.pox_outcomes.specs.Markup.{IsMarkup, word_at}
 use Rattle.pox_outcomes.specs.Leaves.{IsLeaf, tag_ends}
 use Rattle.pox_outcomes.specs.Stops.{IsHalt}
-use Rattle.pox_outcomes.specs.declared.stops.Halt.TheVariants.{Stopped, NoMemory}
+use Rattle.pox_outcomes.specs.declared.stops.Halt.TheVariants.{Stopped}
 use Rattle.pox_outcomes.proofs.CarriedLemmas.{carried, halts}
-use Rattle.pox_outcomes.proofs.LeafLemmas.{leaf_stops_tag, leaf_stops_text, leaf_stops_closing, leaf_reads, leaf_reads_empty}
+use Rattle.pox_outcomes.proofs.LeafLemmas.{leaf_stops_tag, leaf_stops_text, leaf_stops_closing, leaf_reads}
 use Rattle.pox_outcomes.proofs.leaves.leaf.Goals as goal
 
 pub returns-in_err-place-clause-stops : goal.returns-in_err-place-clause-stops
@@ -26,7 +26,7 @@ returns-in_err-text-clause-stops c =
     let one : c.in_ok-place.place ≡ 1 = omega arith in
     let start = subst (λ (k : ℕ). Reads (IsMarkup (word_at tag_ends k)) bytes rest) one c.in_ok-place.ensures.reads in
     carried (IsHalt (Any (IsLeaf closing)) bytes) c.from_residual-in_err-text.result halt c.from_residual-in_err-text.ensures.1
-      (halts bytes rest halt (λ n s. leaf_stops_text closing bytes rest n start s) c.in_err-text.ensures.stops)
+    (halts bytes rest halt (λ n s. leaf_stops_text closing bytes rest n start s) c.in_err-text.ensures.stops)
 
 pub returns-in_err-rest-clause-stops : goal.returns-in_err-rest-clause-stops
 returns-in_err-rest-clause-stops c =
@@ -40,7 +40,7 @@ returns-in_err-rest-clause-stops c =
     let one : c.in_ok-place.place ≡ 1 = omega arith in
     let start = subst (λ (k : ℕ). Reads (IsMarkup (word_at tag_ends k)) bytes rest) one c.in_ok-place.ensures.reads in
     carried (IsHalt (Any (IsLeaf closing)) bytes) c.from_residual-in_err-rest.result (Stopped stop) c.from_residual-in_err-rest.ensures.1
-      (leaf_stops_closing closing bytes rest c.in_ok-text.text last stop.left start c.in_ok-text.ensures.reads c.in_err-rest.ensures.stops)
+    (leaf_stops_closing closing bytes rest c.in_ok-text.text last stop.left start c.in_ok-text.ensures.reads c.in_err-rest.ensures.stops)
 
 pub returns-clause-reads : goal.returns-clause-reads
 returns-clause-reads c =

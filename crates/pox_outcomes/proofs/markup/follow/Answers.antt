@@ -1,4 +1,4 @@
-use Rattle.std.proofs.Common.{◌≡◌, ◌==◌, true, false, eq-eqb, get_or, ◌+◌, ap, sym, subst, arith}
+use Rattle.std.proofs.Common.{◌≡◌, ◌==◌, false, eq-eqb, get_or, ◌+◌, sym, subst, arith}
 use Rattle.std.proofs.lemmas.Bool.Decides.{nat_tests}
 use Rattle.pox_outcomes.proofs.MarkupLemmas.{Going, going_space, going_byte, going_end, going_stops}
 use Rattle.pox_outcomes.proofs.markup.follow.Goals as goal
@@ -8,7 +8,7 @@ loop-piece-preserved-then-piece-eq32 c =
     let m = c.args.markup.now in
     let at = c.loop-piece.piece-index in
     subst (Going m c.args.bytes.now (at + 1)) (sym c.skip_white-rest.ensures)
-      (going_space m c.args.bytes.now c.loop-piece.rest.now at c.loop-piece-test.true (eq-eqb (get_or m at 0) 32 c.if-piece-eq32.true) c.loop-piece.invariant)
+    (going_space m c.args.bytes.now c.loop-piece.rest.now at c.loop-piece-test.true (eq-eqb (get_or m at 0) 32 c.if-piece-eq32.true) c.loop-piece.invariant)
 
 pub returns-in_default-clause-stops : goal.returns-in_default-clause-stops
 returns-in_default-clause-stops c =

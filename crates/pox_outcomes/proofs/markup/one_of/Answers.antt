@@ -1,6 +1,6 @@
 use Rattle.std.proofs.Common.{◌≡◌, true, sym, subst, arith, List, ℕ, ◌+◌, length}
 use Rattle.pox_outcomes.specs.Language.{StopsAt}
-use Rattle.pox_outcomes.specs.Markup.{IsMarkup, IsOneOf, behind, word_at, is_plain}
+use Rattle.pox_outcomes.specs.Markup.{IsMarkup, behind, word_at, is_plain}
 use Rattle.pox_outcomes.proofs.ChoiceLemmas.{IsTried, tried_more, tried_all, plain_at, behind_at}
 use Rattle.pox_outcomes.proofs.markup.one_of.Goals as goal
 

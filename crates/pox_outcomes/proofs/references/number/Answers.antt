@@ -1,5 +1,5 @@
-use Rattle.std.proofs.Common.{◌≡◌, true, inl, inr, sym, ◌∙◌}
-use Rattle.pox_outcomes.proofs.NumberLemmas.{Counts, counts_more, counts_end, counts_stop, least_base}
+use Rattle.std.proofs.Common.{inl, inr, sym, ◌∙◌}
+use Rattle.pox_outcomes.proofs.NumberLemmas.{counts_more, counts_end, counts_stop, least_base}
 use Rattle.pox_outcomes.proofs.references.number.Goals as goal
 
 pub digits-preserved : goal.digits-preserved

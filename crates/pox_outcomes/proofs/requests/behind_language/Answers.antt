@@ -19,7 +19,7 @@ returns-in_err-last-clause-stops c =
     let bytes = c.args.bytes.now in
     let closing = c.args.closing.now in
     carried (IsHalt (Any (IsBehindLanguage closing)) bytes) c.from_residual-in_err-last.result (Stopped stop) c.from_residual-in_err-last.ensures.1
-      (language_stops_word closing bytes c.in_ok-rest.field-0-0 c.in_ok-rest.rest.now stop.left c.in_ok-rest.ensures.reads c.in_err-last.ensures.stops)
+    (language_stops_word closing bytes c.in_ok-rest.field-0-0 c.in_ok-rest.rest.now stop.left c.in_ok-rest.ensures.reads c.in_err-last.ensures.stops)
 
 pub returns-in_err-score-clause-stops : goal.returns-in_err-score-clause-stops
 returns-in_err-score-clause-stops c =
@@ -28,7 +28,7 @@ returns-in_err-score-clause-stops c =
     let closing = c.args.closing.now in
     let last = c.in_ok-last.last.now in
     carried (IsHalt (Any (IsBehindLanguage closing)) bytes) c.from_residual-in_err-score.result halt c.from_residual-in_err-score.ensures.1
-      (halts bytes last halt (λ n s. language_stops_string closing bytes c.in_ok-rest.field-0-0 c.in_ok-rest.rest.now last n c.in_ok-rest.ensures.reads c.in_ok-last.ensures.reads s) c.in_err-score.ensures.stops)
+    (halts bytes last halt (λ n s. language_stops_string closing bytes c.in_ok-rest.field-0-0 c.in_ok-rest.rest.now last n c.in_ok-rest.ensures.reads c.in_ok-last.ensures.reads s) c.in_err-score.ensures.stops)
 
 pub returns-clause-reads : goal.returns-clause-reads
 returns-clause-reads c =

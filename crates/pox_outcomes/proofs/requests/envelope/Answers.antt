@@ -1,4 +1,4 @@
-use Rattle.std.proofs.Common.{◌≡◌, ℕ, sym, subst}
+use Rattle.std.proofs.Common.{ℕ, sym, subst}
 use Rattle.pox_outcomes.specs.Language.{Any, Reads}
 use Rattle.pox_outcomes.specs.Markup.{IsMarkup, word_at}
 use Rattle.pox_outcomes.specs.Request.{operations, IsEnvelope}
@@ -79,5 +79,5 @@ returns-clause-reads c =
     let identified = c.in_ok-place.identified.now in
     let placed = subst (λ (k : ℕ). Reads (IsMarkup (word_at operations k)) asked identified) (sym c.operation_at-operation.ensures) c.in_ok-place.ensures.reads in
     envelope_reads c.args.bytes.now c.in_ok-opened.opened.now c.in_ok-named.named.now c.in_ok-headed.headed.now asked identified c.in_ok-sourced_id.scored.now c.in_ok-score_text.behind.now
-      (record { message = c.in_ok-message.message; operation = c.operation_at-operation.result; sourced_id = c.in_ok-sourced_id.sourced_id; score_text = c.in_ok-score_text.score_text })
-      c.in_ok-opened.ensures.reads c.in_ok-named.ensures.reads c.in_ok-headed.ensures.reads c.in_ok-message.ensures.reads placed c.in_ok-sourced_id.ensures.reads c.in_ok-score_text.ensures.reads
+    (record { message = c.in_ok-message.message; operation = c.operation_at-operation.result; sourced_id = c.in_ok-sourced_id.sourced_id; score_text = c.in_ok-score_text.score_text })
+    c.in_ok-opened.ensures.reads c.in_ok-named.ensures.reads c.in_ok-headed.ensures.reads c.in_ok-message.ensures.reads placed c.in_ok-sourced_id.ensures.reads c.in_ok-score_text.ensures.reads

@@ -1,13 +1,10 @@
-use Rattle.std.proofs.Common.{◌≡◌, ◌++◌, ◌-◌, ◌==◌, ◌≤◌, ℕ, List, Bool, true, false, length, sym, ap, ◌∙◌, subst, refl}
+use Rattle.std.proofs.Common.{◌++◌, ◌-◌, ℕ, List, length, sym, ap, ◌∙◌, subst, refl}
 use Rattle.pox_outcomes.specs.Language.{StopsAt, Any}
-use Rattle.pox_outcomes.specs.Markup.{is_white, after_white}
-use Rattle.pox_outcomes.specs.Request.{EnvelopeOf, IsEnvelope}
+use Rattle.pox_outcomes.specs.Markup.{is_white}
+use Rattle.pox_outcomes.specs.Request.{IsEnvelope}
 use Rattle.pox_outcomes.specs.Stops.{IsHalt}
-use Rattle.pox_outcomes.specs.BadRequest.{IsBadAt}
-use Rattle.pox_outcomes.specs.declared.outcome.Outcome.{Outcome}
 use Rattle.pox_outcomes.proofs.MarkupLemmas.{white_of}
 use Rattle.pox_outcomes.proofs.RunLemmas.{IsOutside}
-use Rattle.pox_outcomes.proofs.LanguageLemmas.{left-le}
 use Rattle.pox_outcomes.proofs.DocumentLemmas.{bad_envelope, bad_rest, good_rest, rest_le, document_once}
 use Rattle.pox_outcomes.proofs.requests.read_request.Goals as goal
 
@@ -22,14 +19,14 @@ returns-then-not-is_empty-clause-bad c =
     let rest = c.in-Ok.rest.now in
     let w = white_of rest in
     bad_rest c.args.bytes.now rest w.run c.skip_white-dark.result.now c.in-Ok.outcome _ c.in-Ok.ensures.reads (w.are ∙ ap (λ (t : List ℕ). w.run ++ t) (sym c.skip_white-dark.ensures)) w.is
-      (subst (IsOutside is_white) (sym c.skip_white-dark.ensures) w.outside) (sym c.is_empty.ensures ∙ c.if-not-is_empty.true) refl
+    (subst (IsOutside is_white) (sym c.skip_white-dark.ensures) w.outside) (sym c.is_empty.ensures ∙ c.if-not-is_empty.true) refl
 
 pub returns-then-not-is_empty-clause-only : goal.returns-then-not-is_empty-clause-only
 returns-then-not-is_empty-clause-only c = λ o d.
     let rest = c.in-Ok.rest.now in
     let w = white_of rest in
     let bad = bad_rest c.args.bytes.now rest w.run c.skip_white-dark.result.now c.in-Ok.outcome (length c.args.bytes.now - length c.skip_white-dark.result.now) c.in-Ok.ensures.reads (w.are ∙ ap (λ (t : List ℕ). w.run ++ t) (sym c.skip_white-dark.ensures)) w.is
-      (subst (IsOutside is_white) (sym c.skip_white-dark.ensures) w.outside) (sym c.is_empty.ensures ∙ c.if-not-is_empty.true) refl in
+    (subst (IsOutside is_white) (sym c.skip_white-dark.ensures) w.outside) (sym c.is_empty.ensures ∙ c.if-not-is_empty.true) refl in
     absurd (bad.none o d)
 
 pub returns-else-not-is_empty-clause-outcome : goal.returns-else-not-is_empty-clause-outcome

@@ -1,4 +1,4 @@
-use Rattle.std.proofs.Common.{◌≡◌, ◌<◌, ℕ, List, Bor, subst, arith, codes}
+use Rattle.std.proofs.Common.{◌≡◌, ℕ, List, Bor, subst, arith}
 use Rattle.std.proofs.lemmas.Result.{IfOk-weaker, IfErr-weaker}
 use Rattle.lti_outside.specs.declared.text.Text.{Text}
 use Rattle.pox_outcomes.specs.Language.{Any, Reads}
@@ -22,7 +22,7 @@ returns-then-place-eq0-clause-reads c =
     let rest = c.in_ok-place.rest.now in
     let start = subst (λ (k : ℕ). Reads (IsMarkup (word_at scores k)) bytes rest) c.if-place-eq0.true c.in_ok-place.ensures.reads in
     IfOk-weaker c.behind_language.result (λ (found : Text × Bor (List ℕ)). Reads (IsBehindLanguage replace_end found.0) rest found.1.now) (λ (found : Text × Bor (List ℕ)). Reads (IsScore found.0) bytes found.1.now)
-      (λ found h. score_reads_language bytes rest found.1.now found.0 start h) c.behind_language.ensures.reads
+    (λ found h. score_reads_language bytes rest found.1.now found.0 start h) c.behind_language.ensures.reads
 
 pub returns-then-place-eq0-clause-stops : goal.returns-then-place-eq0-clause-stops
 returns-then-place-eq0-clause-stops c =
@@ -30,7 +30,7 @@ returns-then-place-eq0-clause-stops c =
     let rest = c.in_ok-place.rest.now in
     let start = subst (λ (k : ℕ). Reads (IsMarkup (word_at scores k)) bytes rest) c.if-place-eq0.true c.in_ok-place.ensures.reads in
     IfErr-weaker c.behind_language.result (λ (halt : Halt). IsHalt (Any (IsBehindLanguage replace_end)) rest halt) (λ (halt : Halt). IsHalt (Any IsScore) bytes halt)
-      (λ halt h. halts bytes rest halt (λ n s. score_behind 0 bytes rest n (omega arith) start s) h) c.behind_language.ensures.stops
+    (λ halt h. halts bytes rest halt (λ n s. score_behind 0 bytes rest n (omega arith) start s) h) c.behind_language.ensures.stops
 
 pub returns-clause-reads : goal.returns-clause-reads
 returns-clause-reads c =
@@ -41,7 +41,7 @@ returns-clause-reads c =
     let one : c.in_ok-place.place ≡ 1 = omega arith in
     let start = subst (λ (k : ℕ). Reads (IsMarkup (word_at scores k)) bytes rest) one c.in_ok-place.ensures.reads in
     IfOk-weaker c.text_string.result (λ (found : Text × Bor (List ℕ)). Reads (IsTextString replace_end found.0) rest found.1.now) (λ (found : Text × Bor (List ℕ)). Reads (IsScore found.0) bytes found.1.now)
-      (λ found h. score_reads_string bytes rest found.1.now found.0 start h) c.text_string.ensures.reads
+    (λ found h. score_reads_string bytes rest found.1.now found.0 start h) c.text_string.ensures.reads
 
 pub returns-clause-stops : goal.returns-clause-stops
 returns-clause-stops c =
@@ -52,4 +52,4 @@ returns-clause-stops c =
     let one : c.in_ok-place.place ≡ 1 = omega arith in
     let start = subst (λ (k : ℕ). Reads (IsMarkup (word_at scores k)) bytes rest) one c.in_ok-place.ensures.reads in
     IfErr-weaker c.text_string.result (λ (halt : Halt). IsHalt (Any (IsTextString replace_end)) rest halt) (λ (halt : Halt). IsHalt (Any IsScore) bytes halt)
-      (λ halt h. halts bytes rest halt (λ n s. score_behind 1 bytes rest n (omega arith) start s) h) c.text_string.ensures.stops
+    (λ halt h. halts bytes rest halt (λ n s. score_behind 1 bytes rest n (omega arith) start s) h) c.text_string.ensures.stops

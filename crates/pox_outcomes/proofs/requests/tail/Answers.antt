@@ -1,4 +1,4 @@
-use Rattle.std.proofs.Common.{◌≡◌, ℕ, List, Bor, sym, subst, IfOk, IfErr}
+use Rattle.std.proofs.Common.{ℕ, List, Bor, sym, subst, IfOk, IfErr}
 use Rattle.lti_outside.specs.declared.text.Text.{Text}
 use Rattle.pox_outcomes.specs.Language.{Any, Reads}
 use Rattle.pox_outcomes.specs.Request.{IsTail}

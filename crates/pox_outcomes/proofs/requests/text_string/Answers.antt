@@ -1,6 +1,4 @@
-use Rattle.std.proofs.Common.{codes}
 use Rattle.pox_outcomes.specs.Language.{Any}
-use Rattle.pox_outcomes.specs.Leaves.{IsLeaf}
 use Rattle.pox_outcomes.specs.Request.{IsTextString}
 use Rattle.pox_outcomes.specs.Stops.{IsHalt}
 use Rattle.pox_outcomes.specs.declared.stops.Halt.TheVariants.{Stopped}
@@ -22,7 +20,7 @@ returns-in_err-behind-clause-stops c =
     let bytes = c.args.bytes.now in
     let closing = c.args.closing.now in
     carried (IsHalt (Any (IsTextString closing)) bytes) c.from_residual-in_err-behind.result (Stopped stop) c.from_residual-in_err-behind.ensures.1
-      (string_stops_closing closing bytes c.in_ok-score.score c.in_ok-score.rest.now stop.left c.in_ok-score.ensures.reads c.in_err-behind.ensures.stops)
+    (string_stops_closing closing bytes c.in_ok-score.score c.in_ok-score.rest.now stop.left c.in_ok-score.ensures.reads c.in_err-behind.ensures.stops)
 
 pub returns-clause-reads : goal.returns-clause-reads
 returns-clause-reads c = reads_then c.args.bytes.now c.in_ok-score.rest.now c.in_ok-behind.behind.now c.in_ok-score.ensures.reads c.in_ok-behind.ensures.reads

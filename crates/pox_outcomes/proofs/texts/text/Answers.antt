@@ -1,6 +1,6 @@
-use Rattle.std.proofs.Common.{◌≡◌, ◌++◌, [], ◌∷◌, ℕ, List, sym, ap, ◌∙◌, subst}
+use Rattle.std.proofs.Common.{◌++◌, ℕ, List, sym, ap, ◌∙◌, subst}
 use Rattle.std.specs.String.{string_bytes}
-use Rattle.pox_outcomes.specs.Language.{StopsAt, Any, Reads}
+use Rattle.pox_outcomes.specs.Language.{Any, Reads}
 use Rattle.pox_outcomes.specs.Markup.{is_white, after_white, BeginsOtherwise}
 use Rattle.pox_outcomes.specs.Texts.{IsText}
 use Rattle.pox_outcomes.specs.Stops.{IsHalt}
@@ -31,7 +31,7 @@ returns-in_err-end-clause-stops c =
     let rest = c.units.rest.now in
     let halt = c.in_err-end.field-0.0 in
     carried (IsHalt (Any IsText) bytes) c.from_residual.result halt c.from_residual.ensures.1
-      (halts bytes rest halt (λ n s. spells_stop bytes (string_bytes c.units.text) rest n c.units.invariant s) c.in_err-end.ensures.stops)
+    (halts bytes rest halt (λ n s. spells_stop bytes (string_bytes c.units.text) rest n c.units.invariant s) c.in_err-end.ensures.stops)
 
 pub returns-in-Some-after_byte-clause-reads : goal.returns-in-Some-after_byte-clause-reads
 returns-in-Some-after_byte-clause-reads c =
@@ -41,7 +41,7 @@ returns-in-Some-after_byte-clause-reads c =
     let behind = c.in-Some-after_byte.behind.now in
     let less = sym c.skip_white.ensures ∙ c.in-Some-after_byte.ensures in
     subst (λ (t : List ℕ). Reads (IsText t) bytes behind) (sym c.from_string-in-Some-after_byte.ensures)
-      (spells_end bytes (string_bytes c.units.text) (string_bytes c.push_unit.new.text) c.units.rest.now end w.run (after_white end) behind c.units.invariant c.in_ok-end.ensures.reads w.are w.is less)
+    (spells_end bytes (string_bytes c.units.text) (string_bytes c.push_unit.new.text) c.units.rest.now end w.run (after_white end) behind c.units.invariant c.in_ok-end.ensures.reads w.are w.is less)
 
 pub returns-in_err-rest-clause-stops : goal.returns-in_err-rest-clause-stops
 returns-in_err-rest-clause-stops c =
@@ -49,7 +49,7 @@ returns-in_err-rest-clause-stops c =
     let rest = c.units.rest.now in
     let halt = c.in_err-rest.field-0.0 in
     carried (IsHalt (Any IsText) bytes) c.from_residual-in_err-rest.result halt c.from_residual-in_err-rest.ensures.1
-      (halts bytes c.in_ok-end.end.now halt (λ n s. spells_stop_behind bytes (string_bytes c.units.text) (string_bytes c.push_unit.new.text) rest c.in_ok-end.end.now n c.units.invariant c.in_ok-end.ensures.reads s) c.in_err-rest.ensures.stops)
+    (halts bytes c.in_ok-end.end.now halt (λ n s. spells_stop_behind bytes (string_bytes c.units.text) (string_bytes c.push_unit.new.text) rest c.in_ok-end.end.now n c.units.invariant c.in_ok-end.ensures.reads s) c.in_err-rest.ensures.stops)
 
 pub units-preserved : goal.units-preserved
 units-preserved c =
