@@ -11,3 +11,4 @@ pub mod Request
 pub mod BadRequest
 pub mod Written
 pub mod Refusal
+pub mod Answered

@@ -22,13 +22,13 @@ escape_byte edge b =
     else (if b == 32 && edge then codes "&#32;"
     else b ∷ []))))))
 
--- the text written, where `first` says whether it begins here
-unfoldable pub escape_from : Bool → List ℕ → List ℕ
-escape_from first [] = []
-escape_from first (b ∷ text) = escape_byte (first || length text == 0) b ++ escape_from false text
+-- Part of a text written, where `first` and `last` say whether the text begins and ends with the part.
+unfoldable pub escape_part : Bool → Bool → List ℕ → List ℕ
+escape_part first last [] = []
+escape_part first last (b ∷ text) = escape_byte (first || (last && length text == 0)) b ++ escape_part false last text
 
 abbrev pub escape_text : List ℕ → List ℕ
-escape_text text = escape_from true text
+escape_text text = escape_part true true text
 
 abbrev pub declaration : List ℕ
 declaration = codes "<?xml version=\"1.0\" encoding=\"UTF-8\"?>"

@@ -6,6 +6,7 @@
 //! refused with the number of them that begin one. A request is written as one exact text.
 #![tactic(auto)]
 
+mod answers;
 mod attributes;
 mod characters;
 mod declaration;
@@ -13,15 +14,19 @@ mod faults;
 mod leaves;
 mod markup;
 mod outcome;
+mod puts;
 mod references;
 mod requests;
 mod stops;
 #[cfg(test)]
 mod tests;
 mod texts;
+mod told;
 mod writing;
 
+pub use answers::{answer_room, write_answer};
 pub use faults::{EnvelopeFault, EnvelopeRefusal};
 pub use outcome::{Operation, Outcome};
 pub use requests::read_request;
+pub use told::Told;
 pub use writing::write_request;

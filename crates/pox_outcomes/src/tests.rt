@@ -1,5 +1,8 @@
-use crate::{EnvelopeFault, EnvelopeRefusal, Operation, Outcome, read_request, write_request};
-use lti_outside::Text;
+use crate::{
+    EnvelopeFault, EnvelopeRefusal, Operation, Outcome, Told, answer_room, read_request,
+    write_answer, write_request,
+};
+use lti_outside::{Bytes, Text};
 use std::alloc::Global;
 use std::test::Fail;
 
@@ -133,5 +136,26 @@ fn other_characters_are_refused(rt: HostRuntime) -> Result<(), Fail> {
         Err(refusal) => assert!(rt; refusal == EnvelopeRefusal::NotXml),
         Ok(_) => assert!(rt; false),
     }
+    Ok(())
+}
+
+#[test]
+fn answers_are_written_within_their_room(rt: HostRuntime) -> Result<(), Fail> {
+    let outcome = Outcome {
+        message: Text::new(rt.alloc(), "7")?,
+        operation: Operation::ReadResult,
+        sourced_id: Text::new(rt.alloc(), "9 ")?,
+        score_text: Text::empty(rt.alloc()),
+    };
+    let mut out = Bytes::new(rt.alloc());
+    let room = answer_room(&outcome);
+    assert!(rt; room < 4096);
+    out.reserve(room)?;
+    let before = out.spare();
+    write_answer(&outcome, Told::UnknownId, &mut out);
+    assert!(rt; out.spare() < before);
+    let answer =
+        "<?xml version=\"1.0\" encoding=\"UTF-8\"?><imsx_POXEnvelopeResponse xmlns=\"http://www.imsglobal.org/services/ltiv1p1/xsd/imsoms_v1p0\"><imsx_POXHeader><imsx_POXResponseHeaderInfo><imsx_version>V1.0</imsx_version><imsx_messageIdentifier>7</imsx_messageIdentifier><imsx_statusInfo><imsx_codeMajor>failure</imsx_codeMajor><imsx_severity>error</imsx_severity><imsx_description>Unknown sourcedId 9&#32;</imsx_description><imsx_messageRefIdentifier>7</imsx_messageRefIdentifier><imsx_operationRefIdentifier>readResult</imsx_operationRefIdentifier></imsx_statusInfo></imsx_POXResponseHeaderInfo></imsx_POXHeader><imsx_POXBody><readResultResponse/></imsx_POXBody></imsx_POXEnvelopeResponse>";
+    assert!(rt; out.get() == answer.as_bytes());
     Ok(())
 }

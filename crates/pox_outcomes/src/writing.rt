@@ -1,11 +1,12 @@
 // Writing outcome requests (LTI 1.1.1, section 6, and the schema imsoms_v1p0).
-ghost use Rattle.std.specs.Prelude.{◌≡◌, ◌++◌, ◌||◌, ◌==◌, ◌+◌, ◌<◌, ◌↔◌, Bool, true, IsTrue, OnOk, OnErr, IfOk, IfErr};
+ghost use Rattle.std.specs.Prelude.{◌≡◌, ◌++◌, ◌+◌, ◌*◌, ◌≤◌, ◌↔◌, length, IsTrue, OnOk, IfOk, IfErr, IfSome};
 ghost use Rattle.pox_outcomes.specs.Refusal.{IsRefusalOf};
 ghost use Rattle.pox_outcomes.specs.Written as spec;
 ghost use Rattle.pox_outcomes.specs.declared.outcome.Operation.TheVariants as asked_for;
 ghost use Rattle.pox_outcomes.specs.Written.{IsXml, IsXmlText, escape_text, request_text, request_start, asked, request_end};
 
 use crate::characters::after_character;
+use crate::puts::{put, put_text};
 use crate::{EnvelopeRefusal, Operation, Outcome};
 use lti_outside::{Bytes, NoMemory};
 use std::alloc::Global;
@@ -27,78 +28,54 @@ fn is_xml(text: &[u8]) -> bool
     true
 }
 
-// Appends the byte as it is written at the edge of a text or inside of it.
-fn escape_byte(out: &mut Bytes, edge: bool, b: u8) -> Result<(), NoMemory>
-    ensures { OnOk result (out.new.list ≡ out.old.list ++ spec.escape_byte edge b) }
-{
-    match b {
-        b'&' => out.push(b"&amp;"),
-        b'<' => out.push(b"&lt;"),
-        b'>' => out.push(b"&gt;"),
-        b'\t' => out.push(b"&#9;"),
-        b'\n' => out.push(b"&#10;"),
-        b'\r' => out.push(b"&#13;"),
-        b' ' if edge => out.push(b"&#32;"),
-        _ => out.push(&[b]),
-    }
-}
-
-// Whether the byte at the place is the first or the last one.
-fn is_edge(place: usize, len: usize) -> bool
-    requires { place < len }
-    ensures { result ≡ (place == 0 || place + 1 == len) }
-{
-    place == 0 || place + 1 == len
-}
-
-// Appends the text as it is written.
-fn escape(out: &mut Bytes, text: &[u8]) -> Result<(), NoMemory>
-    ensures { OnOk result (out.new.list ≡ out.old.list ++ escape_text text.now) }
-{
-    for (place, b) in text.iter().enumerate() {
-        escape_byte(out, is_edge(place, text.len()), *b)?;
-    }
-    Ok(())
-}
-
-fn push_asked(out: &mut Bytes, operation: Operation) -> Result<(), NoMemory>
-    ensures { OnOk result (out.new.list ≡ out.old.list ++ asked operation) }
+fn push_asked(out: &mut Bytes, operation: Operation)
+    requires { 160 ≤ out.old.room }
+    ensures list { out.new.list ≡ out.old.list ++ asked operation }
+    ensures room { out.old.room ≤ out.new.room + 160 }
 {
     match operation {
-        Operation::ReplaceResult => out.push(
+        Operation::ReplaceResult => put(
+            out,
             b"</imsx_messageIdentifier></imsx_POXRequestHeaderInfo></imsx_POXHeader><imsx_POXBody><replaceResultRequest><resultRecord><sourcedGUID><sourcedId>",
         ),
-        Operation::ReadResult => out.push(
+        Operation::ReadResult => put(
+            out,
             b"</imsx_messageIdentifier></imsx_POXRequestHeaderInfo></imsx_POXHeader><imsx_POXBody><readResultRequest><resultRecord><sourcedGUID><sourcedId>",
         ),
-        Operation::DeleteResult => out.push(
+        Operation::DeleteResult => put(
+            out,
             b"</imsx_messageIdentifier></imsx_POXRequestHeaderInfo></imsx_POXHeader><imsx_POXBody><deleteResultRequest><resultRecord><sourcedGUID><sourcedId>",
         ),
     }
 }
 
-fn push_replaced(out: &mut Bytes, score: &[u8]) -> Result<(), NoMemory>
-    ensures { OnOk result (out.new.list ≡ out.old.list ++ request_end asked_for.ReplaceResult score.now) }
+fn push_replaced(out: &mut Bytes, score: &[u8])
+    requires { 240 + 5 * length score.now ≤ out.old.room }
+    ensures { out.new.list ≡ out.old.list ++ request_end asked_for.ReplaceResult score.now }
 {
-    out.push(
+    put(
+        out,
         b"</sourcedId></sourcedGUID><result><resultScore><language>en</language><textString>",
-    )?;
-    escape(out, score)?;
-    out.push(
+    );
+    put_text(out, score);
+    put(
+        out,
         b"</textString></resultScore></result></resultRecord></replaceResultRequest></imsx_POXBody></imsx_POXEnvelopeRequest>",
-    )?;
-    Ok(())
+    );
 }
 
-fn push_end(out: &mut Bytes, operation: Operation, score: &[u8]) -> Result<(), NoMemory>
-    ensures { OnOk result (out.new.list ≡ out.old.list ++ request_end operation score.now) }
+fn push_end(out: &mut Bytes, operation: Operation, score: &[u8])
+    requires { 240 + 5 * length score.now ≤ out.old.room }
+    ensures { out.new.list ≡ out.old.list ++ request_end operation score.now }
 {
     match operation {
         Operation::ReplaceResult => push_replaced(out, score),
-        Operation::ReadResult => out.push(
+        Operation::ReadResult => put(
+            out,
             b"</sourcedId></sourcedGUID></resultRecord></readResultRequest></imsx_POXBody></imsx_POXEnvelopeRequest>",
         ),
-        Operation::DeleteResult => out.push(
+        Operation::DeleteResult => put(
+            out,
             b"</sourcedId></sourcedGUID></resultRecord></deleteResultRequest></imsx_POXBody></imsx_POXEnvelopeRequest>",
         ),
     }
@@ -113,19 +90,33 @@ fn are_xml(outcome: &Outcome) -> bool
         && is_xml(outcome.score_text.get().as_bytes())
 }
 
+// Room enough for the texts, where a number counts it.
+fn room_for(message: &[u8], sourced_id: &[u8], score: &[u8]) -> Option<usize>
+    ensures { IfSome result (λ room. room ≡ 1024 + 5 * length message.now + 5 * length sourced_id.now + 5 * length score.now) }
+{
+    let message = message.len().checked_mul(5)?;
+    let sourced_id = sourced_id.len().checked_mul(5)?;
+    let score = score.len().checked_mul(5)?;
+    let texts = message.checked_add(sourced_id)?.checked_add(score)?;
+    texts.checked_add(1024)
+}
+
 fn request(alloc: Global, outcome: &Outcome) -> Result<Bytes, NoMemory>
     ensures { IfOk result (λ made. made.list ≡ request_text outcome.now) }
 {
+    let message = outcome.message.get().as_bytes();
+    let sourced_id = outcome.sourced_id.get().as_bytes();
+    let score = outcome.score_text.get().as_bytes();
+    let Some(room) = room_for(message, sourced_id, score) else {
+        return Err(NoMemory);
+    };
     let mut out = Bytes::new(alloc);
-    out.push(REQUEST_START)?;
-    escape(&mut out, outcome.message.get().as_bytes())?;
-    push_asked(&mut out, outcome.operation)?;
-    escape(&mut out, outcome.sourced_id.get().as_bytes())?;
-    push_end(
-        &mut out,
-        outcome.operation,
-        outcome.score_text.get().as_bytes(),
-    )?;
+    out.reserve(room)?;
+    put(&mut out, REQUEST_START);
+    put_text(&mut out, message);
+    push_asked(&mut out, outcome.operation);
+    put_text(&mut out, sourced_id);
+    push_end(&mut out, outcome.operation, score);
     Ok(out)
 }
 
