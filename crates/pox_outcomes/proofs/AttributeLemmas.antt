@@ -479,9 +479,6 @@ pub record Along (bytes : List ℕ) (seen : Bool) (rest : List ℕ) : Type 0 whe
   pub into : (y : List ℕ) → IsAttributes seen y → IsAttributes false (front ++ y)
   pub stops : (n : ℕ) → StopsAt (IsAttributes seen) rest n → StopsAt (IsAttributes false) bytes n
 
-pub along_start : (bytes : List ℕ) → Along bytes false bytes
-along_start bytes = record { front = []; are = refl; into = λ y a. a; stops = λ n s. s }
-
 pub along_more : (bytes : List ℕ) (seen namespace : Bool) (rest white dark behind : List ℕ) → Along bytes seen rest → rest ≡ white ++ dark → IsWhite white → begins is_white white ≡ true → IsOutside is_white dark → ReadsAttribute dark namespace behind
     → Along bytes (seen || namespace) behind
 along_more bytes seen namespace rest white dark behind along are is some_white outside a = record {

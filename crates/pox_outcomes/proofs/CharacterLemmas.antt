@@ -7,7 +7,7 @@ use Rattle.std.specs.List.{list_all}
 use Rattle.lti_outside.proofs.BoolLemmas.{and_split, or_split}
 use Rattle.pox_outcomes.specs.Language.{StopsAt, Reads}
 use Rattle.pox_outcomes.specs.Characters.{is_within, IsByteIn, IsRow, row_at, rows, IsCharacter, behind, BeginsBeside, are_ranges}
-use Rattle.pox_outcomes.proofs.LanguageLemmas.{IsPrefixFree, Leads, leads_first, leads_then, leads_same, no_cons}
+use Rattle.pox_outcomes.proofs.LanguageLemmas.{IsPrefixFree, Leads, leads_first, leads_then, no_cons}
 
 range_free : (range : ℕ × ℕ) → IsPrefixFree (IsByteIn range)
 range_free range x y r s a c e =
@@ -42,9 +42,6 @@ free_row (range ∷ row) = λ x y r s a c e.
 pub record Going (row : List (ℕ × ℕ)) (bytes : List ℕ) (at : ℕ) (rest : List ℕ) : Type 0 where
   pub leads : Leads (IsRow row) bytes (IsRow (drop at row)) rest
   pub are : are_ranges (drop at row) ≡ true
-
-pub going_start : (row : List (ℕ × ℕ)) (bytes : List ℕ) → are_ranges row ≡ true → Going row bytes 0 bytes
-going_start row bytes are = record { leads = leads_same bytes; are = are }
 
 at_step : (row : List (ℕ × ℕ)) (at : ℕ) → at < length row → drop at row ≡ get_or row at (0, 0) ∷ drop (at + 1) row
 at_step row at within = drop-cons row at (0, 0) within ∙ ap (λ n. get_or row at (0, 0) ∷ drop n row) (sym (add-one at))

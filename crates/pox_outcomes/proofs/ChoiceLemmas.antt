@@ -2,7 +2,6 @@
 use Rattle.std.proofs.Common.{◌≡◌, ℕ, zero, suc, Bor, ◌+◌, ◌<◌, ◌≤◌, ◌⊎◌, inl, inr, ⊎_elim, Bool, true, false, cond, not, ◌&&◌, ◌||◌, ◌==◌, List, [], ◌∷◌, ◌++◌, length, get_or, min, append_assoc, append-nil, refl, sym, ap, ◌∙◌, subst, arith}
 use Rattle.std.specs.List.{list_all}
 use Rattle.std.proofs.lemmas.Bool.{false≢true, cases_Bool, cases_lt}
-use Rattle.std.proofs.lemmas.List.{length-map}
 use Rattle.std.proofs.lemmas.Bool.Decides.{nat_tests}
 use Rattle.lti_outside.proofs.BoolLemmas.{and_split, or_split}
 use Rattle.pox_outcomes.specs.Language.{Then, StopsAt, Reads, IsAmong}
@@ -54,9 +53,6 @@ pub behind_at : (words : List (Bor (List ℕ))) (at : ℕ) → (get_or words at 
 behind_at [] at = refl
 behind_at (word ∷ words) zero = refl
 behind_at (word ∷ words) (suc at) = behind_at words at
-
-pub length-behind : (words : List (Bor (List ℕ))) → length (behind words) ≡ length words
-length-behind words = length-map words (λ (word : Bor (List ℕ)). word.now)
 
 -- ---- words that don't begin alike
 

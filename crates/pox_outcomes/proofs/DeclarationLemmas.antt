@@ -96,9 +96,6 @@ closing_dark bytes n dark s = stops_ended bytes n dark s
 pub closing_white : (bytes rest : List ℕ) (n : ℕ) → IsBehindWhite bytes rest → StopsAt (IsOneOf closings 5) rest n → StopsAt IsClosing bytes n
 closing_white bytes rest n w s = (leads_ended bytes rest w).stops n s
 
-pub closing_reads_dark : (bytes rest : List ℕ) → Reads (IsMarkup (codes "?>")) bytes rest → Reads IsClosing bytes rest
-closing_reads_dark bytes rest reads = record { front = reads.front; are = reads.are; is = inl reads.is }
-
 pub closing_reads_white : (bytes rest behind : List ℕ) (place : ℕ) → IsBehindWhite bytes rest → place < 5 → Reads (IsMarkup (word_at closings place)) rest behind → Reads IsClosing bytes behind
 closing_reads_white bytes rest behind place w within reads = reads_ended bytes rest behind w (record { front = reads.front; are = reads.are; is = (place, within, reads.is) })
 
@@ -186,9 +183,6 @@ free_parts x y r s a b e =
 
 pub version_dark : (bytes : List ℕ) (n : ℕ) → BeginsDark bytes → StopsAt (IsMarkup (codes "?>")) bytes n → StopsAt IsAfterVersion bytes n
 version_dark bytes n dark s = stops_ended bytes n dark s
-
-pub version_reads_dark : (bytes rest : List ℕ) → Reads (IsMarkup (codes "?>")) bytes rest → Reads IsAfterVersion bytes rest
-version_reads_dark bytes rest reads = record { front = reads.front; are = reads.are; is = inl reads.is }
 
 pub version_stops_part : (bytes rest : List ℕ) (n : ℕ) → IsBehindWhite bytes rest → StopsAt (IsOneOf parts 7) rest n → StopsAt IsAfterVersion bytes n
 version_stops_part bytes rest n w s = (leads_ended bytes rest w).stops n (stops_choice Begins IsPart 7 rest n (λ place within. part_one place) s)
@@ -315,9 +309,6 @@ opening_reads root bytes rest last behind start declaration end =
     let t = reads_then bytes rest behind start (reads_then rest last behind declaration end) in
     record { front = t.front; are = t.are; is = inl t.is }
 
-pub opening_reads_root : (root bytes rest : List ℕ) → Reads (Starts root 1) bytes rest → Reads (IsOpening root) bytes rest
-opening_reads_root root bytes rest reads = record { front = reads.front; are = reads.are; is = inr reads.is }
-
 root_at : (root : List ℕ) → are_words (starts root) ≡ true → (x y r s : List ℕ) → IsMarkup root x → IsMarkup root y → x ++ r ≡ y ++ s → x ≡ y
 root_at root all x y r s a b e = (code_words (starts root) all 1 1 (omega arith) (omega arith) x y r s a b e).1
 
@@ -330,6 +321,3 @@ free_opening root all x y r s (inr a) (inl b) e =
     let far = code_words (starts root) all 0 1 (omega arith) (omega arith) b.front x (b.back ++ s) r b.first a (sym (append_assoc b.front b.back s) ∙ ap (λ t. t ++ s) (sym b.are) ∙ sym e) in
     absurd (omega (arith, far.0))
 free_opening root all x y r s (inr a) (inr b) e = root_at root all x y r s a b e
-
-pub opening_one : (root : List ℕ) → (y : List ℕ) × IsOpening root y
-opening_one root = let m = markup_one root in (m.0, inr m.1)

@@ -3,7 +3,6 @@ use Rattle.std.proofs.Common.{◌≡◌, ◌≢◌, ℕ, ◌<◌, ◌≤◌, ◌
 use Rattle.std.proofs.lemmas.List.{append_cancel_left}
 use Rattle.std.proofs.lemmas.Bool.{cases_lt}
 use Rattle.pox_outcomes.specs.Language.{Then, StopsAt, Reads}
-use Rattle.pox_outcomes.specs.declared.stops.Left.{Left}
 
 -- no string of the set begins another
 abbrev pub IsPrefixFree : (List ℕ → Type 0) → Type 0
@@ -202,7 +201,3 @@ stops_beside {A = A} {B = B} bytes n beside a = record {
       (omega (arith, most, same), far.1))
       d;
 }
-
--- the same for what a reader says
-pub stop_through : {L M : List ℕ → Type 0} (bytes rest : List ℕ) (stop : Left) → Leads L bytes M rest → StopsAt M rest stop.left → StopsAt L bytes stop.left
-stop_through bytes rest stop leads s = leads.stops stop.left s

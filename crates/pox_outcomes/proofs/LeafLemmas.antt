@@ -58,9 +58,6 @@ pub leaf_stops_closing : (closing bytes rest text last : List ℕ) (n : ℕ) →
 leaf_stops_closing closing bytes rest text last n start reads s =
     behind_start closing bytes rest n start ((leads_first rest last free_text (record { front = reads.front; are = reads.are; is = (text, reads.is) })).stops n s)
 
-pub leaf_reads_empty : (closing bytes rest text : List ℕ) → text ≡ [] → Reads (Ends 0) bytes rest → Reads (IsLeaf closing text) bytes rest
-leaf_reads_empty closing bytes rest text none reads = record { front = reads.front; are = reads.are; is = inl (none, reads.is) }
-
 pub leaf_reads : (closing bytes rest text last behind : List ℕ) → Reads (Ends 1) bytes rest → Reads (IsText text) rest last → Reads (IsMarkup closing) last behind → Reads (IsLeaf closing text) bytes behind
 leaf_reads closing bytes rest text last behind a b c = record {
   front = a.front ++ (b.front ++ c.front);

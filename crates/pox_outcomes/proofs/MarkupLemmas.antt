@@ -5,7 +5,7 @@ use Rattle.std.proofs.lemmas.List.{drop_all, append_cancel_left}
 use Rattle.lti_outside.proofs.BoolLemmas.{and_split}
 use Rattle.pox_outcomes.specs.Language.{Then, StopsAt, Reads}
 use Rattle.pox_outcomes.specs.Markup.{is_white, IsWhite, IsMarkup, begins_dark, is_plain, after_white, BeginsOtherwise}
-use Rattle.pox_outcomes.proofs.LanguageLemmas.{IsPrefixFree, Leads, leads_first, leads_then, leads_same}
+use Rattle.pox_outcomes.proofs.LanguageLemmas.{IsPrefixFree, Leads, leads_first, leads_then}
 use Rattle.pox_outcomes.proofs.RunLemmas.{IsOutside, BeginsOutside, leads_run, free_run}
 
 pub not_true : (t : Bool) → not t ≡ true → t ≡ false
@@ -32,15 +32,6 @@ white_cons false b bytes e w = record { run = []; are = rw e refl; is = refl; ou
 pub white_of : (bytes : List ℕ) → White bytes
 white_of [] = record { run = []; are = refl; is = refl; outside = tt }
 white_of (b ∷ bytes) = white_cons (is_white b) b bytes refl (white_of bytes)
-
-pub after_white-white : (b : ℕ) (bytes : List ℕ) → is_white b ≡ true → after_white (b ∷ bytes) ≡ after_white bytes
-after_white-white b bytes e = rw e refl
-
-pub after_white-dark : (b : ℕ) (bytes : List ℕ) → is_white b ≡ false → after_white (b ∷ bytes) ≡ b ∷ bytes
-after_white-dark b bytes e = rw e refl
-
-pub after_white-nil : after_white [] ≡ []
-after_white-nil = refl
 
 -- ---- one piece
 
@@ -122,9 +113,6 @@ free_markup (b ∷ m) plain =
 pub record Going (markup bytes : List ℕ) (at : ℕ) (rest : List ℕ) : Type 0 where
   pub leads : Leads (IsMarkup markup) bytes (IsMarkup (drop at markup)) rest
   pub plain : is_plain (drop at markup) ≡ true
-
-pub going_start : (markup bytes : List ℕ) → is_plain markup ≡ true → Going markup bytes 0 bytes
-going_start markup bytes plain = record { leads = leads_same bytes; plain = plain }
 
 at_step : (markup : List ℕ) (at : ℕ) → at < length markup → drop at markup ≡ get_or markup at 0 ∷ drop (at + 1) markup
 at_step markup at within = drop-cons markup at 0 within ∙ ap (λ n. get_or markup at 0 ∷ drop n markup) (sym (add-one at))

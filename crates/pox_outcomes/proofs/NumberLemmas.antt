@@ -57,9 +57,6 @@ pub record Counts (base : ℕ) (bytes : List ℕ) (value : ℕ) (rest : List ℕ
   pub stops : (n : ℕ) → StopsAt (IsSome base value) rest n → StopsAt (IsSome base 0) bytes n
   pub most : value ≤ 0x10FFFF
 
-pub counts_start : (base : ℕ) (bytes : List ℕ) → Counts base bytes 0 bytes
-counts_start base bytes = record { front = []; are = refl; into = λ code y n. n; stops = λ n s. s; most = omega arith }
-
 pub counts_more : (base value next : ℕ) (bytes rest others : List ℕ) → base ≤ 16 → GoesOn base value next rest others → Counts base bytes value rest → Counts base bytes next others
 counts_more base value next bytes rest others small goes counts = record {
   front = counts.front ++ goes.digit ∷ [];

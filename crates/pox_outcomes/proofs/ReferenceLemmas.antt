@@ -1,9 +1,8 @@
 -- References to characters.
-use Rattle.std.proofs.Common.{◌≡◌, ◌≢◌, ℕ, zero, suc, ◌<◌, ◌⊎◌, inl, inr, ⊎_elim, Bool, true, false, ◌==◌, List, [], ◌∷◌, ◌++◌, slice_index, MatchBool, append_assoc, append-nil, refl, sym, ap, ◌∙◌, subst, arith, codes}
+use Rattle.std.proofs.Common.{◌≡◌, ◌≢◌, ℕ, zero, suc, ◌<◌, ◌⊎◌, inl, inr, ⊎_elim, Bool, true, false, ◌==◌, List, [], ◌∷◌, ◌++◌, slice_index, MatchBool, append_assoc, refl, sym, ap, ◌∙◌, subst, arith, codes}
 use Rattle.std.specs.List.{list_all}
 use Rattle.std.proofs.lemmas.Bool.{false≢true, cases_Bool}
 use Rattle.std.proofs.lemmas.List.{append_cancel_left}
-use Rattle.std.proofs.lemmas.Bool.Decides.{nat_tests}
 use Rattle.lti_outside.proofs.BoolLemmas.{and_split}
 use Rattle.pox_outcomes.specs.Language.{Then, StopsAt, Reads, IsAmong}
 use Rattle.pox_outcomes.specs.Markup.{IsMarkup, word_at, BeginsOtherwise}
@@ -52,9 +51,6 @@ reads_x bytes digits rest code is reads = record {
   are = is ∙ ap (λ t. 120 ∷ t) reads.are;
   is = inl (record { front = 120 ∷ []; back = reads.front; are = refl; first = markup_x; second = reads.is });
 }
-
-pub reads_ten : (bytes rest : List ℕ) (code : ℕ) → Reads (IsNumber 10 0 code) bytes rest → Reads (IsNumeral code) bytes rest
-reads_ten bytes rest code reads = record { front = reads.front; are = reads.are; is = inr reads.is }
 
 elsewhere_x : (bytes p q r y : List ℕ) → BeginsOtherwise 120 bytes → p ++ q ≡ 120 ∷ y → bytes ≡ p ++ r → (p ≡ []) × (q ≢ [])
 elsewhere_x bytes [] q r y other e is = (refl, no_cons q 120 y e)
@@ -117,25 +113,6 @@ numeral_reads bytes rest behind code opened reads = record {
   are = opened.are ∙ ap (λ t. opened.front ++ t) reads.are ∙ sym (append_assoc opened.front reads.front behind);
   is = (5, omega arith, record { front = opened.front; back = reads.front; are = refl; first = opened.is; second = reads.is });
 }
-
-pub named_reads : (bytes rest : List ℕ) (place code : ℕ) → place < 5 → code ≡ slice_index named place → Reads (Opens place) bytes rest → Reads (IsReference code) bytes rest
-named_reads bytes rest place code within is opened =
-    let other : (place == 5) ≡ false = grind (arith, nat_tests) in
-    record {
-      front = opened.front;
-      are = opened.are;
-      is = (
-        place,
-        omega arith,
-        record {
-          front = opened.front;
-          back = [];
-          are = sym (append-nil opened.front);
-          first = opened.is;
-          second = subst (λ t. closes t place code []) (sym other) (is, refl);
-        },
-      );
-    }
 
 -- ---- each reference is to one character
 

@@ -193,9 +193,6 @@ begins_front : (P : ℕ → Bool) (front rest bytes : List ℕ) → bytes ≡ fr
 begins_front P [] rest bytes e first is = absurd (none_empty is)
 begins_front P (b ∷ front) rest bytes e first is = subst (λ t. begins P t ≡ true) e first
 
-pub by_reads : (P : ℕ → Bool) (bytes rest : List ℕ) → begins P bytes ≡ true → Reads IsCharacter bytes rest → Reads (IsCharacterBy P) bytes rest
-by_reads P bytes rest first r = record { front = r.front; are = r.are; is = record { character = r.is; first = begins_front P r.front rest bytes r.are first r.is } }
-
 -- ---- a unit
 
 unit_literal : (text x : List ℕ) → IsUnit text x → IsLiteral x ⊎ IsSomeReference x

@@ -9,7 +9,7 @@ use Rattle.std.specs.List.{list_all}
 use Rattle.std.proofs.lemmas.List.{take_at}
 use Rattle.lti_outside.proofs.BoolLemmas.{and_split}
 use Rattle.pox_outcomes.specs.Texts.{is_gap, IsGap}
-use Rattle.pox_outcomes.specs.Characters.{is_within, IsRow, row_at, rows, IsCharacter, is_allowed}
+use Rattle.pox_outcomes.specs.Characters.{is_within, IsRow, row_at, rows, IsCharacter}
 
 pub encode_two : (c : ℕ) → 0x80 ≤ c → c < 0x800 → encode_utf8 c ≡ (192 + c / 64) ∷ (128 + c % 64) ∷ []
 unfolding encode_utf8
@@ -145,9 +145,6 @@ at_place (suc (suc (suc (suc (suc (suc (suc (suc (suc (suc (suc (suc (suc place)
 -- an allowed character is UTF-8
 pub utf8_character : (x : List ℕ) → IsCharacter x → IsUtf8 x
 utf8_character x is = at_place is.0 x is.1 is.2
-
-pub scalar_allowed : (c : ℕ) → is_allowed c ≡ true → IsScalar c
-scalar_allowed c allowed = grind (arith, nat_tests)
 
 -- a gap is UTF-8
 pub utf8_gap : (gap : List ℕ) → IsGap gap → IsUtf8 gap

@@ -17,9 +17,6 @@ character_front x y is (one character rest c behind are) some_byte =
     let same : x ≡ character = free_character x character y rest is c are in
     subst IsXmlText (sym (behind_same x character y rest same are)) behind
 
-nonempty : (b : ℕ) (t x y : List ℕ) → b ∷ t ≡ x ++ y → x ++ y ≡ [] → ⊥
-nonempty b t x y e z = let whole : b ∷ t ≡ [] = e ∙ z in cc
-
 -- a text with a character in front holds allowed characters exactly where what stands behind it does
 pub xml_more : (rest others : List ℕ) → (rest ≡ [] → ⊥) → Reads IsCharacter rest others → IsXmlText rest → IsXmlText others
 xml_more rest others long reads is =
