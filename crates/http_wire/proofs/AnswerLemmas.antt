@@ -1,5 +1,5 @@
 -- What each part of reading an answer failed with, the answer fails with.
-use Rattle.std.proofs.Common.{◌≡◌, ℕ, List, [], ◌++◌, inl, inr, refl, sym, ap, ◌∙◌, append-nil, subst, length}
+use Rattle.std.proofs.Common.{◌≡◌, ℕ, List, [], ◌++◌, inl, inr, refl, sym, ap, ◌∙◌, append-nil, subst}
 use Rattle.std.specs.Prelude.{Ok, Err, Result, Option, None, Some}
 use Rattle.lti_outside.specs.Held.{Held}
 use Rattle.lti_outside.specs.declared.limits.Limits.{Limits}
@@ -11,7 +11,6 @@ use Rattle.http_wire.specs.declared.fault.WireFault.{WireFault}
 use Rattle.http_wire.specs.declared.fault.WireFault.TheVariants.{HeadTooLong, CutShort, BodyTooLong, ReadFault, NoMemory}
 use Rattle.http_wire.specs.Conditions.{first_fault}
 use Rattle.http_wire.specs.Lines.{line_conditions}
-use Rattle.http_wire.specs.Message.{AnswerParts}
 use Rattle.http_wire.specs.Taking.{HandTells, HeadTaken, BodyTaken}
 use Rattle.http_wire.specs.Spelling.{HeadIn, fault_of}
 use Rattle.http_wire.specs.Answer.{PlainAnswer, plain_answer_of, answer_conditions, answer_length, answer_of, AnswerHeadReads, IsAnswerBody, AnswerSpelling, AnswerTells}

@@ -1,10 +1,9 @@
 -- Bytes begin with one answer at most.
-use Rattle.std.proofs.Common.{◌≡◌, ℕ, List, [], ◌++◌, length, sym, ap, ◌∙◌, append_assoc, append-nil, subst}
+use Rattle.std.proofs.Common.{◌≡◌, ℕ, List, [], ◌++◌, sym, ap, ◌∙◌, append_assoc, append-nil, subst}
 use Rattle.std.specs.Prelude.{Option, None, Some, ⊤}
 use Rattle.httparse.proofs.GrammarLemmas.{response_unique}
 use Rattle.lti_outside.specs.declared.limits.Limits.{Limits}
-use Rattle.http_wire.specs.Message.{AnswerParts}
-use Rattle.http_wire.specs.Answer.{PlainAnswer, plain_answer_of, answer_length, answer_of, AnswerHeadReads, IsAnswerBody, AnswerSpelling, OneAnswer}
+use Rattle.http_wire.specs.Answer.{PlainAnswer, plain_answer_of, answer_length, answer_of, AnswerHeadReads, IsAnswerBody, OneAnswer}
 use Rattle.http_wire.proofs.UniqueLemmas.{heads_unique, same_fronts}
 
 -- a head says one thing

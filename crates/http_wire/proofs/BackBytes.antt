@@ -1,25 +1,25 @@
 -- Which bytes stand in the parts of a written request.
-use Rattle.std.proofs.Common.{◌≡◌, ℕ, suc, ◌+◌, ◌-◌, ◌<◌, ◌≤◌, ◌^◌, ◌==◌, ◌&&◌, ◌||◌, not, leb, Bool, true, false, cond, All, List, [], ◌∷◌, ◌++◌, length, get_or, take, drop, map, reverse, refl, sym, ap, ◌∙◌, subst, arith, ⊎_elim, length-take}
-use Rattle.std.specs.Prelude.{decimal, IsTrue}
+use Rattle.std.proofs.Common.{◌≡◌, ℕ, suc, ◌+◌, ◌-◌, ◌<◌, ◌≤◌, ◌^◌, ◌==◌, ◌&&◌, ◌||◌, not, leb, Bool, true, false, cond, List, [], ◌∷◌, ◌++◌, length, get_or, take, drop, map, reverse, refl, sym, ap, ◌∙◌, subst, arith, ⊎_elim, length-take}
+use Rattle.std.specs.Prelude.{decimal}
 use Rattle.std.specs.Char.{to_ascii_lowercase, is_ascii_digit, is_ascii_uppercase, digit_value}
 use Rattle.std.specs.List.{list_all, list_any, position_or_len, before_first, after_first}
 use Rattle.std.specs.Str.Parse.{AllDigits, digits_value}
 use Rattle.std.proofs.lemmas.Bool.{cases_Bool, cases_lt}
 use Rattle.std.proofs.lemmas.Bool.Decides.{nat_tests}
 use Rattle.std.proofs.lemmas.Fmt.{decimal_is_IsNumeral_wide, length-decimal-le_wide}
-use Rattle.std.proofs.lemmas.List.{get_or-take, take_all}
+use Rattle.std.proofs.lemmas.List.{get_or-take}
 use Rattle.std.proofs.lemmas.List.Elements.{All-get_or, All-from_get_or, All-weaker}
 use Rattle.std.proofs.lemmas.List.Folds.{list_all-append}
 use Rattle.std.proofs.lemmas.List.Sums.{AllPass-from_list_all, list_all-from_AllPass}
-use Rattle.httparse.specs.Grammar.{is_token_byte, is_uri_byte, is_value_byte, is_ows, skip_ows, trim_ows, AllPass}
+use Rattle.httparse.specs.Grammar.{is_token_byte, is_uri_byte, is_value_byte, is_ows, skip_ows, AllPass}
 use Rattle.httparse.proofs.TrimLemmas.{AllPass-reverse}
 use Rattle.oauth_text.specs.Host.{is_name_byte, is_address_byte, is_plain_name, is_closed, is_address, is_host_name, name_len, is_port, is_suffix, is_host}
 use Rattle.lti_outside.proofs.BoolLemmas.{and_split, or_split}
 use Rattle.lti_outside.proofs.DigitLemmas.{decimal_parts}
 use Rattle.http_wire.specs.Taking.{HasNoLineFeed}
-use Rattle.http_wire.specs.Headers.{is_text_byte, trim_end, is_length}
+use Rattle.http_wire.specs.Headers.{is_text_byte, is_length}
 use Rattle.http_wire.specs.Head.{is_target_byte, is_target}
-use Rattle.http_wire.specs.Written.{where_some, query_text, is_path, is_media_byte}
+use Rattle.http_wire.specs.Written.{query_text, is_path, is_media_byte}
 use Rattle.http_wire.proofs.BackHost.{and_join, is_byte, whole}
 
 -- a byte from 0x21 to 0x7E

@@ -1,9 +1,8 @@
 -- A written request is read back.
-use Rattle.std.proofs.Common.{◌≡◌, ℕ, ◌+◌, ◌<◌, ◌≤◌, ◌^◌, ◌==◌, ◌&&◌, ◌||◌, not, leb, Bool, true, false, cond, All, List, [], ◌∷◌, ◌++◌, length, map, reverse, codes, refl, sym, ap, ◌∙◌, subst, arith, append_assoc, append-nil, length-append, IsUtf8, Option, Some, None}
-use Rattle.std.specs.Prelude.{decimal, IsTrue, nat_lt, nat_eq}
+use Rattle.std.proofs.Common.{◌≡◌, ℕ, ◌+◌, ◌<◌, ◌≤◌, ◌^◌, ◌==◌, ◌&&◌, ◌||◌, not, Bool, true, false, cond, All, List, [], ◌∷◌, ◌++◌, length, map, reverse, codes, refl, sym, ap, ◌∙◌, subst, arith, append_assoc, append-nil, length-append, Option, Some, None}
+use Rattle.std.specs.Prelude.{decimal, nat_lt, nat_eq}
 use Rattle.std.specs.Char.{to_ascii_lowercase}
-use Rattle.std.specs.List.{list_all, list_any, flat_map, starts_with, before_first, after_first}
-use Rattle.std.specs.Str.Parse.{digits_value}
+use Rattle.std.specs.List.{list_all, list_any, flat_map, starts_with}
 use Rattle.std.proofs.Math.Logic.{∥∥₁_elim}
 use Rattle.std.proofs.Props.{props}
 use Rattle.std.proofs.lemmas.Bool.Decides.{nat_tests}
@@ -16,7 +15,7 @@ use Rattle.std.proofs.lemmas.Str.{IsUtf8-from_ascii}
 use Rattle.httparse.specs.Grammar as grammar
 use Rattle.httparse.specs.Grammar.{LineEnd, Field, IsField, IsToken, is_token, is_token_byte, is_value_byte, is_uri_byte, AllPass, print_field, print_section, print_version, RequestHead, IsRequestHead, print_request, ReadsRequest, skip_ows, trim_ows}
 use Rattle.httparse.specs.Spans.{name_and_value}
-use Rattle.oauth_text.specs.Host.{is_host, host_parts, IsHostOf}
+use Rattle.oauth_text.specs.Host.{host_parts, IsHostOf}
 use Rattle.lti_outside.specs.declared.limits.Limits.{Limits}
 use Rattle.lti_outside.proofs.BoolLemmas.{and_split}
 use Rattle.http_wire.specs.declared.fault.WireFault.{WireFault}
@@ -25,17 +24,16 @@ use Rattle.http_wire.specs.Conditions.{first_fault}
 use Rattle.http_wire.specs.Shape.{IsHead}
 use Rattle.http_wire.specs.Taking.{HasNoLineFeed}
 use Rattle.http_wire.specs.Lines.{line_ends, has_bare_line_feed, line_conditions}
-use Rattle.http_wire.specs.Headers.{is_same_text, is_named, values_of, count_of, first_in, is_none, is_text_byte, is_read_header, is_bad_header, has_bad_header, trim_end, media_in, is_encoding, is_closing, is_one_host, is_length, is_bad_length, length_in, has_body}
-use Rattle.http_wire.specs.Head.{Plain, plain_of, is_target, is_target_byte, length_conditions, part_conditions, body_length, request_of, HeadReads}
+use Rattle.http_wire.specs.Headers.{is_same_text, values_of, count_of, first_in, is_none, is_text_byte, is_read_header, is_bad_header, has_bad_header, trim_end, media_in, is_encoding, is_closing, is_one_host, is_length, is_bad_length, length_in, has_body}
+use Rattle.http_wire.specs.Head.{Plain, plain_of, is_target, is_target_byte, part_conditions, request_of}
 use Rattle.http_wire.specs.Message.{RequestParts}
-use Rattle.http_wire.specs.Spelling.{Spelling}
 use Rattle.http_wire.specs.Response.{length_line}
-use Rattle.http_wire.specs.Written.{where_some, query_text, version_text, request_line, port_text, host_text, value_line, request_head, request_text, is_trimmed, is_value, is_media, is_media_byte, IsSoundRequest}
+use Rattle.http_wire.specs.Written.{query_text, version_text, request_line, host_text, value_line, request_head, is_trimmed, is_media_byte, IsSoundRequest}
 use Rattle.http_wire.specs.Back.{Holds, WrittenIsRead}
 use Rattle.http_wire.proofs.HeaderLemmas.{target_is_ascii}
-use Rattle.http_wire.proofs.BackHost.{and_join, host_back}
+use Rattle.http_wire.proofs.BackHost.{host_back}
 use Rattle.http_wire.proofs.BackLines.{crlf, IsLines, no_lines, add_line, add_value, lines_are_head}
-use Rattle.http_wire.proofs.BackBytes.{is_visible, all_join, no_feed, token_no_feed, token_no_return, text_of_visible, value_of_text, uri_of_target, text_of_media, visible_front, visible_end, host_visible, decimal_visible, length_back, cut_back, media_kept, target_back}
+use Rattle.http_wire.proofs.BackBytes.{is_visible, no_feed, token_no_feed, token_no_return, text_of_visible, value_of_text, uri_of_target, text_of_media, visible_front, visible_end, host_visible, decimal_visible, length_back, cut_back, media_kept, target_back}
 
 -- ---- the head that was written
 

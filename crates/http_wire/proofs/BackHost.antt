@@ -1,21 +1,18 @@
 -- A host is read back from its name and its port.
-use Rattle.std.proofs.Common.{◌≡◌, ℕ, zero, suc, ◌+◌, ◌-◌, ◌<◌, ◌≤◌, ◌^◌, ◌==◌, ◌&&◌, ◌||◌, not, min, leb, Bool, true, false, cond, List, [], ◌∷◌, ◌++◌, length, get_or, take, drop, map, codes, refl, sym, ap, ◌∙◌, subst, arith, Option, None, Some, ⊎_elim, length-take}
-use Rattle.std.specs.Prelude.{decimal}
-use Rattle.std.specs.Char.{to_ascii_lowercase, is_ascii_digit}
+use Rattle.std.proofs.Common.{◌≡◌, ℕ, zero, suc, ◌+◌, ◌-◌, ◌<◌, ◌^◌, ◌==◌, ◌&&◌, ◌||◌, not, min, leb, Bool, true, false, cond, List, [], ◌∷◌, ◌++◌, length, get_or, take, drop, map, refl, sym, ap, ◌∙◌, subst, arith, Option, ⊎_elim}
+use Rattle.std.specs.Char.{to_ascii_lowercase}
 use Rattle.std.specs.Cmp.{both_ways}
 use Rattle.std.specs.List.{list_all, position_or_len}
 use Rattle.std.specs.Str.Parse.{AllDigits, digits_value}
-use Rattle.std.proofs.lemmas.Bool.{agree_below, agree_below_at}
+use Rattle.std.proofs.lemmas.Bool.{agree_below_at}
 use Rattle.std.proofs.lemmas.Bool.Decides.{nat_tests}
 use Rattle.std.proofs.lemmas.Fmt.{decimal-digits_value}
 use Rattle.std.proofs.lemmas.Str.Parse.{IsNumeralModel}
 use Rattle.std.proofs.lemmas.List.{length-map, take-map}
-use Rattle.std.proofs.lemmas.List.Folds.{list_all-append}
 use Rattle.std.proofs.Math.ListN.{get_or-map}
-use Rattle.oauth_text.specs.Host.{is_name_byte, is_address_byte, is_plain_name, is_closed, is_address, is_host_name, name_len, is_port, is_suffix, port_in, is_host, host_parts, IsHostOf}
+use Rattle.oauth_text.specs.Host.{is_name_byte, is_address_byte, is_plain_name, is_closed, is_address, is_host_name, name_len, is_port, is_suffix, port_in, IsHostOf}
 use Rattle.lti_outside.proofs.BoolLemmas.{and_split, or_split}
-use Rattle.lti_outside.proofs.DigitLemmas.{decimal_parts, digit_worth}
-use Rattle.http_wire.specs.Headers.{is_text_byte}
+use Rattle.lti_outside.proofs.DigitLemmas.{decimal_parts}
 use Rattle.http_wire.specs.Written.{port_text, host_text}
 use Rattle.http_wire.proofs.NumberLemmas.{all_digits}
 

@@ -1,11 +1,10 @@
 -- Lines, one after another, are a head behind the empty line.
-use Rattle.std.proofs.Common.{◌≡◌, ℕ, ◌<◌, ◌==◌, ◌&&◌, ◌||◌, not, inl, inr, Bool, true, false, All, List, [], ◌∷◌, ◌++◌, length, refl, sym, ap, ◌∙◌, subst, append_assoc, append-nil, arith, length-append}
-use Rattle.std.proofs.lemmas.Grind.{common_steps}
+use Rattle.std.proofs.Common.{◌≡◌, ℕ, ◌<◌, ◌==◌, ◌&&◌, ◌||◌, not, inl, inr, false, List, [], ◌∷◌, ◌++◌, length, refl, sym, ap, ◌∙◌, subst, append_assoc, append-nil, arith, length-append}
 use Rattle.std.proofs.lemmas.List.Elements.{All-head, All-tail, All-append, All-cons, All-nil}
 use Rattle.http_wire.specs.Shape.{head_end, HasNoHead, IsHead}
 use Rattle.http_wire.specs.Taking.{HasNoLineFeed}
 use Rattle.http_wire.specs.Lines.{has_bare_line_feed}
-use Rattle.http_wire.specs.Written.{where_some, value_line}
+use Rattle.http_wire.specs.Written.{value_line}
 use Rattle.http_wire.proofs.ShapeLemmas.{by_last, before_last, none_at_first, none_after, none_within}
 
 abbrev pub crlf : List ℕ

@@ -1,7 +1,6 @@
 -- What each part of reading a request failed with, the request fails with.
-use Rattle.std.proofs.Common.{◌≡◌, ℕ, List, [], ◌++◌, inl, inr, refl, sym, ap, ◌∙◌, append_assoc, subst, length}
-use Rattle.std.specs.Prelude.{Ok, Err, Result, None, Some}
-use Rattle.lti_outside.specs.Held.{Held}
+use Rattle.std.proofs.Common.{◌≡◌, ℕ, List, [], ◌++◌, inl, inr, refl, sym, ap, ◌∙◌, append_assoc, length}
+use Rattle.std.specs.Prelude.{Ok, Err, Result, None}
 use Rattle.lti_outside.specs.declared.limits.Limits.{Limits}
 use Rattle.lti_outside.specs.Traffic.{Traffic, Moves, no_fault}
 use Rattle.httparse.specs.Grammar.{RequestHead, ReadsRequest}

@@ -3,7 +3,7 @@ use Rattle.std.proofs.Common.{◌≡◌, ◌<◌, ◌+◌, ℕ, List, [], ◌∷
 use Rattle.std.specs.Borrow.{Bor}
 use Rattle.std.proofs.lemmas.Grind.{flat_map-append}
 use Rattle.std.proofs.lemmas.List.{take_more, take-append-drop}
-use Rattle.lti_outside.specs.Traffic.{Traffic, Moves, no_fault, write_fault, GivesFront}
+use Rattle.lti_outside.specs.Traffic.{Traffic, Moves, no_fault, GivesFront}
 use Rattle.lti_outside.proofs.TrafficLemmas.{Moves-gives}
 use Rattle.http_wire.specs.Pieces.{joined}
 

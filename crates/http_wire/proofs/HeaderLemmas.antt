@@ -1,7 +1,6 @@
 -- The bytes of headers that are read, and the host among them.
-use Rattle.std.proofs.Common.{◌≡◌, ℕ, ◌<◌, ◌≤◌, ◌&&◌, ◌||◌, ◌==◌, not, Bool, true, false, cond, All, List, [], ◌∷◌, length, filter, map, codes, IsAscii, Option, refl, sym, ap, ◌∙◌, subst, ⊎_elim, arith}
+use Rattle.std.proofs.Common.{◌≡◌, ℕ, ◌<◌, ◌≤◌, ◌&&◌, ◌||◌, ◌==◌, not, Bool, true, false, cond, List, [], ◌∷◌, length, filter, map, codes, IsAscii, Option, refl, sym, ap, ◌∙◌, subst, ⊎_elim, arith}
 use Rattle.std.specs.List.{list_all, list_any}
-use Rattle.std.specs.Str.{bytes_eq}
 use Rattle.std.proofs.lemmas.Bool.{cases_Bool}
 use Rattle.std.proofs.lemmas.Bool.Decides.{nat_tests}
 use Rattle.std.proofs.lemmas.List.{nil_from_length}
@@ -11,7 +10,7 @@ use Rattle.std.proofs.lemmas.Str.Ascii.{IsAscii-nil, IsAscii-from_all}
 use Rattle.httparse.specs.Grammar.{is_token_byte, IsToken}
 use Rattle.oauth_text.specs.Host.{is_host, IsHostOf}
 use Rattle.lti_outside.proofs.BoolLemmas.{and_split}
-use Rattle.http_wire.specs.Headers.{is_same_text, is_named, values_of, first_in, is_text_byte, is_body_header, is_read_header, is_bad_header, has_bad_header, is_one_host}
+use Rattle.http_wire.specs.Headers.{is_named, values_of, first_in, is_text_byte, is_body_header, is_read_header, is_bad_header, has_bad_header, is_one_host}
 use Rattle.http_wire.specs.Head.{is_target_byte, is_target}
 
 neither : (x y : Bool) → (x || y) ≡ false → (x ≡ false) × (y ≡ false)

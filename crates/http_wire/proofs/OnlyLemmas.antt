@@ -1,36 +1,33 @@
 -- Only a sound request's text is a spelling of it.
-use Rattle.std.proofs.Common.{◌≡◌, ℕ, ◌+◌, ◌<◌, ◌≤◌, ◌^◌, ◌==◌, ◌&&◌, ◌||◌, not, leb, Bool, true, false, cond, List, [], ◌∷◌, ◌++◌, length, map, codes, refl, sym, ap, ◌∙◌, subst, arith, append-nil, length-append, Option, Some, None, unwrap_or}
+use Rattle.std.proofs.Common.{◌≡◌, ℕ, ◌<◌, ◌^◌, ◌==◌, ◌&&◌, ◌||◌, not, Bool, true, false, List, [], ◌∷◌, ◌++◌, length, codes, refl, sym, ap, ◌∙◌, subst, arith, append-nil, length-append, None}
 use Rattle.std.specs.Prelude.{decimal, nat_lt}
 use Rattle.std.specs.List.{list_all, list_any, before_first, after_first}
 use Rattle.std.specs.Str.Parse.{digits_value}
-use Rattle.std.specs.Char.{is_ascii_digit}
 use Rattle.std.proofs.lemmas.Bool.Decides.{nat_tests}
 use Rattle.std.proofs.lemmas.List.Sums.{list_all-from_AllPass}
 use Rattle.std.proofs.lemmas.Int.Digits.{digits_value-lt}
 use Rattle.std.proofs.Math.Nat.{pow-le-pow_right}
-use Rattle.httparse.specs.Grammar.{is_token, is_token_byte, IsToken, RequestHead, print_request, ReadsRequest}
-use Rattle.httparse.specs.Spans.{name_and_value}
+use Rattle.httparse.specs.Grammar.{is_token, is_token_byte, IsToken, print_request, ReadsRequest}
 use Rattle.httparse.proofs.GrammarLemmas.{request_unique}
-use Rattle.oauth_text.specs.Host.{is_host, host_parts, IsHostOf}
+use Rattle.oauth_text.specs.Host.{is_host}
 use Rattle.lti_outside.specs.declared.limits.Limits.{Limits}
 use Rattle.lti_outside.proofs.BoolLemmas.{and_split}
 use Rattle.lti_outside.proofs.DigitLemmas.{decimal_parts}
-use Rattle.http_wire.specs.declared.fault.WireFault.{WireFault}
 use Rattle.http_wire.specs.declared.fault.WireFault.TheVariants.{BadHead, BadTarget, BadHost, Chunked, BadLength}
 use Rattle.http_wire.specs.Conditions.{first_fault}
-use Rattle.http_wire.specs.Headers.{values_of, first_in, is_none, is_text_byte, is_bad_header, has_bad_header, media_in, is_encoding, is_one_host, is_length, is_bad_length, length_in}
-use Rattle.http_wire.specs.Head.{Plain, plain_of, is_target, is_target_byte, part_conditions, body_length, request_of}
+use Rattle.http_wire.specs.Headers.{values_of, first_in, is_none, is_text_byte, has_bad_header, is_encoding, is_one_host, is_length, is_bad_length, length_in}
+use Rattle.http_wire.specs.Head.{Plain, plain_of, is_target, is_target_byte, part_conditions}
 use Rattle.http_wire.specs.Message.{RequestParts}
 use Rattle.http_wire.specs.Spelling.{Spelling}
-use Rattle.http_wire.specs.Written.{host_text, request_head, request_text, is_path, is_value, is_media, is_trimmed, IsSoundRequest}
+use Rattle.http_wire.specs.Written.{host_text, request_head, request_text, is_path, is_value, is_media, IsSoundRequest}
 use Rattle.http_wire.specs.Back.{OnlySoundIsRead}
 use Rattle.http_wire.proofs.NumberLemmas.{all_digits}
 use Rattle.http_wire.proofs.ConditionLemmas.{by_holds}
 use Rattle.http_wire.proofs.HeaderLemmas.{first_text}
 use Rattle.http_wire.proofs.UniqueLemmas.{same_fronts}
 use Rattle.http_wire.proofs.BackHost.{and_join, is_byte}
-use Rattle.http_wire.proofs.BackHead.{Known, known, head_of, headers_of, written_plain, is_request_head, head_text, plain_read, not_encoded}
-use Rattle.http_wire.proofs.OnlyTexts.{IsClean, IsCut, cut_bytes, first_cut, first_value_clean, trimmed_test, media_is_media}
+use Rattle.http_wire.proofs.BackHead.{known, head_of, written_plain, is_request_head, head_text, plain_read, not_encoded}
+use Rattle.http_wire.proofs.OnlyTexts.{IsClean, cut_bytes, first_cut, first_value_clean, trimmed_test, media_is_media}
 
 positive_test : (n : ℕ) → 0 < n → nat_lt 0 n ≡ true
 positive_test n some = grind (arith, nat_tests)

@@ -1,5 +1,5 @@
 -- Values as they are read: trimmed, and cut at a byte.
-use Rattle.std.proofs.Common.{◌≡◌, ℕ, suc, ◌+◌, ◌<◌, ◌≤◌, ◌^◌, ◌==◌, ◌&&◌, ◌||◌, not, leb, Bool, true, false, cond, List, [], ◌∷◌, ◌++◌, length, take, drop, map, filter, reverse, refl, sym, ap, ◌∙◌, subst, arith, ⊎_elim, append-nil, length-append}
+use Rattle.std.proofs.Common.{◌≡◌, ℕ, suc, ◌+◌, ◌<◌, ◌≤◌, ◌==◌, ◌&&◌, ◌||◌, not, Bool, true, false, cond, List, [], ◌∷◌, ◌++◌, length, take, drop, map, filter, reverse, refl, sym, ap, ◌∙◌, subst, arith, ⊎_elim}
 use Rattle.std.specs.Char.{to_ascii_lowercase}
 use Rattle.std.specs.List.{list_all, list_any, position_or_len, before_first, after_first}
 use Rattle.std.specs.Str.{bytes_eq}
@@ -15,7 +15,6 @@ use Rattle.lti_outside.proofs.BoolLemmas.{and_split}
 use Rattle.http_wire.specs.Headers.{is_named, values_of, first_in, is_text_byte, trim_end, media_in}
 use Rattle.http_wire.specs.Written.{is_trimmed, is_media_byte, is_media}
 use Rattle.http_wire.proofs.BackHost.{and_join, implied}
-use Rattle.http_wire.proofs.BackBytes.{all_weaker}
 
 one_more : (n : ℕ) → 1 + n ≡ suc n
 one_more n = omega arith

@@ -3,10 +3,9 @@ use Rattle.std.proofs.Common.{◌≡◌, ◌<◌, ◌⊎◌, ℕ, List, [], ◌�
 use Rattle.std.proofs.lemmas.List.{length-append}
 use Rattle.httparse.proofs.GrammarLemmas.{request_unique}
 use Rattle.lti_outside.specs.declared.limits.Limits.{Limits}
-use Rattle.http_wire.specs.Message.{RequestParts}
 use Rattle.http_wire.specs.Shape.{HasNoHead, IsHead}
 use Rattle.http_wire.specs.Head.{Plain, HeadReads, plain_of, body_length, request_of}
-use Rattle.http_wire.specs.Spelling.{Spelling, HeadIn, BeginsWithNone, OneSpelling, NoProperFront}
+use Rattle.http_wire.specs.Spelling.{HeadIn, BeginsWithNone, OneSpelling, NoProperFront}
 use Rattle.http_wire.proofs.ShapeLemmas.{by_last, before_last, head_of, tail_of}
 
 -- two fronts of the same bytes: one begins with the other

@@ -1,5 +1,5 @@
 -- The pieces of a written request are its text.
-use Rattle.std.proofs.Common.{◌≡◌, ℕ, List, [], ◌∷◌, ◌++◌, length, codes, append_assoc, append-nil, ap, ◌∙◌, Option, None, Some}
+use Rattle.std.proofs.Common.{◌≡◌, ℕ, List, [], ◌++◌, length, codes, append_assoc, append-nil, ap, ◌∙◌, Option, None, Some}
 use Rattle.std.specs.Prelude.{MatchOption, decimal}
 use Rattle.http_wire.specs.Message.{RequestParts}
 use Rattle.http_wire.specs.Written.{where_some, version_text, port_text, request_text}

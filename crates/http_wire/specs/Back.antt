@@ -1,5 +1,5 @@
 -- A written request is read back.
-use Rattle.std.specs.Prelude.{◌≤◌, ◌+◌, ℕ, length}
+use Rattle.std.specs.Prelude.{◌≤◌, ◌+◌, length}
 use Rattle.lti_outside.specs.declared.limits.Limits.{Limits}
 use Rattle.http_wire.specs.Lines.{line_ends}
 use Rattle.http_wire.specs.Message.{RequestParts}

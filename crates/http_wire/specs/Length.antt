@@ -1,5 +1,5 @@
 -- What reading the length of a body answers.
-use Rattle.std.specs.Prelude.{◌≡◌, ℕ, false, true, List, [], Option, None, Some, Result, Ok, Err}
+use Rattle.std.specs.Prelude.{◌≡◌, ℕ, false, true, List, Option, None, Some, Result, Ok, Err}
 use Rattle.lti_outside.specs.declared.limits.Limits.{Limits}
 use Rattle.http_wire.specs.declared.fault.WireFault.{WireFault}
 use Rattle.http_wire.specs.declared.fault.WireFault.TheVariants.{BadLength, ReadFault, NoMemory}

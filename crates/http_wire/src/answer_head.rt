@@ -1,5 +1,5 @@
 // The head of an answer.
-ghost use Rattle.std.specs.Prelude.{◌≡◌, ◌≤◌, ℕ, List, [], length, map, IfSome, IfNone, All, codes};
+ghost use Rattle.std.specs.Prelude.{◌≤◌, [], length, map, IfSome, IfNone, All, codes};
 ghost use Rattle.httparse.specs.Grammar.{ReadsResponse, ResponseHead};
 ghost use Rattle.httparse.specs.Spans.{IsResponseAt, IsResponseWithin, IsHeaderWithin, header_bytes};
 ghost use Rattle.http_wire.specs.Headers.{values_of};

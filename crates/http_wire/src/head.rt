@@ -1,15 +1,11 @@
 // The head of a request.
-ghost use Rattle.std.specs.Prelude.{◌≡◌, ◌≤◌, ◌==◌, ℕ, List, [], length, map, IfOk, IfSome, IfNone, IsErrOf, IsAscii, All, codes, true, false};
-ghost use Rattle.std.specs.List.{list_all, position, position_or_len, before_first, after_first};
+ghost use Rattle.std.specs.Prelude.{◌≡◌, ◌≤◌, ◌==◌, [], length, map, IfOk, IfSome, IfNone, IsErrOf, IsAscii, All, codes, true, false};
 ghost use Rattle.httparse.specs.Grammar.{ReadsRequest, RequestHead};
 ghost use Rattle.httparse.specs.Spans.{IsRequestAt, IsRequestWithin, IsHeaderWithin, header_bytes};
 ghost use Rattle.oauth_text.specs.Host.{IsHostOf};
-ghost use Rattle.http_wire.specs.Conditions.{first_fault, fault_in};
-ghost use Rattle.http_wire.specs.Lines.{line_ends as ends_in, has_bare_line_feed as has_bare_in, line_conditions};
 ghost use Rattle.http_wire.specs.Headers as spec;
 ghost use Rattle.http_wire.specs.Headers.{values_of};
 ghost use Rattle.http_wire.specs.Head as grammar;
-ghost use Rattle.http_wire.specs.Head.{Plain};
 ghost use Rattle.http_wire.specs.Length.{LengthTells};
 ghost use Rattle.http_wire.specs.Front.{HeadTells, PartsTell, IsKept};
 

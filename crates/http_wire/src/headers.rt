@@ -1,9 +1,6 @@
 // The headers of a head, as places in its bytes.
-ghost use Rattle.std.specs.Prelude.{◌≡◌, ◌==◌, false, MatchOption, slice_index, ◌≤◌, ◌<◌, ℕ, List, [], ◌∷◌, length, map, take, filter, IfNone, IfSome, All, true, codes};
-ghost use Rattle.std.specs.List.{list_all, list_any, before_first};
-ghost use Rattle.std.specs.Char.{is_ascii_digit};
-ghost use Rattle.std.specs.Str.Parse.{digits_value};
-ghost use Rattle.httparse.specs.Grammar.{is_ows, skip_ows, trim_ows};
+ghost use Rattle.std.specs.Prelude.{◌≡◌, false, ◌<◌, ℕ, List, [], ◌∷◌, length, map, IfNone, IfSome, All, true, codes};
+ghost use Rattle.std.specs.List.{list_any};
 ghost use Rattle.httparse.specs.Spans.{IsHeaderWithin, header_bytes};
 ghost use Rattle.http_wire.specs.Headers as spec;
 ghost use Rattle.http_wire.specs.Headers.{values_of, count_of};

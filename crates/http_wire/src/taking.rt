@@ -1,5 +1,5 @@
 // Heads and bodies, taken from a connection.
-ghost use Rattle.std.specs.Prelude.{◌≡◌, ◌≤◌, ◌<◌, ◌-◌, ◌++◌, ◌∷◌, ℕ, List, [], IfOk, MatchOption, length, take, true, false, ⊤};
+ghost use Rattle.std.specs.Prelude.{◌≡◌, ◌≤◌, ◌<◌, ◌-◌, ◌++◌, ℕ, List, [], IfOk, MatchOption, length, take, true, false, ⊤};
 ghost use Rattle.lti_outside.specs.Traffic.{Moves, IsAtEnd};
 ghost use Rattle.http_wire.specs.Shape.{head_end};
 ghost use Rattle.http_wire.specs.Spelling.{fault_of};

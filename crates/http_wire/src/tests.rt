@@ -190,34 +190,45 @@ fn refuses_the_first_of_two_faults(rt: HostRuntime) -> Result<(), Fail> {
     refused(&rt, alloc, WireFault::BadLength, &[lengths])
 }
 
-// The limits' own edges, at the usual limits.
+// A request line, `Host` and a long header, of so many bytes, and then this end.
+fn long_head(alloc: Global, size: usize, end: &[u8]) -> Result<Vec<u8>, Fail> {
+    let mut text = b"GET / HTTP/1.1\r\nHost: h\r\nX: ".to_vec(alloc)?;
+    for _ in text.len()..size {
+        text.push(b'x')?;
+    }
+    text.extend_from_slice(end)?;
+    Ok(text)
+}
+
+// The edge of the usual limit on a head, with an end and without.
+#[test]
+fn refuses_long_heads(rt: HostRuntime) -> Result<(), Fail> {
+    let alloc = rt.alloc();
+    let limits = Limits::usual();
+    let longest = long_head(alloc, 16_380, b"\r\n\r\n")?;
+    assert!(rt; fault_of(&rt, alloc, &longest, 5_000, &limits)?.is_none());
+    let over = long_head(alloc, 16_381, b"\r\n\r\n")?;
+    assert!(rt; fault_of(&rt, alloc, &over, 5_000, &limits)? == Some(WireFault::HeadTooLong));
+    let open = long_head(alloc, 16_384, b"")?;
+    assert!(rt; fault_of(&rt, alloc, &open, 5_000, &limits)? == Some(WireFault::HeadTooLong));
+    let short = long_head(alloc, 16_383, b"")?;
+    assert!(rt; fault_of(&rt, alloc, &short, 5_000, &limits)? == Some(WireFault::CutShort));
+    Ok(())
+}
+
+// More header lines and a longer body than the usual limits allow.
 #[test]
 fn refuses_over_the_usual_limits(rt: HostRuntime) -> Result<(), Fail> {
     let alloc = rt.alloc();
     let limits = Limits::usual();
-    let mut long = b"GET / HTTP/1.1\r\nHost: h\r\nX: ".to_vec(alloc)?;
-    while long.len() < 16_380 {
-        long.push(b'x')?;
-    }
-    let mut longest = long.clone()?;
-    longest.extend_from_slice(b"\r\n\r\n")?;
-    assert!(rt; fault_of(&rt, rt.alloc(), &longest, 5_000, &limits)?.is_none());
-    long.extend_from_slice(b"x\r\n\r\n")?;
-    assert!(rt; fault_of(&rt, rt.alloc(), &long, 5_000, &limits)? == Some(WireFault::HeadTooLong));
-    assert!(rt;
-        fault_of(&rt, rt.alloc(), &long[..16_384], 5_000, &limits)? == Some(WireFault::HeadTooLong)
-    );
-    assert!(rt;
-        fault_of(&rt, rt.alloc(), &long[..16_383], 5_000, &limits)? == Some(WireFault::CutShort)
-    );
     let mut many = b"GET / HTTP/1.1\r\nHost: h\r\n".to_vec(alloc)?;
     for _ in 0..64 {
         many.extend_from_slice(b"a:\r\n")?;
     }
     many.extend_from_slice(b"\r\n")?;
-    assert!(rt; fault_of(&rt, rt.alloc(), &many, 64, &limits)? == Some(WireFault::TooManyHeaders));
+    assert!(rt; fault_of(&rt, alloc, &many, 64, &limits)? == Some(WireFault::TooManyHeaders));
     let over = b"PUT / HTTP/1.1\r\nHost: h\r\nContent-Length: 262145\r\n\r\n";
-    assert!(rt; fault_of(&rt, rt.alloc(), over, 64, &limits)? == Some(WireFault::BodyTooLong));
+    assert!(rt; fault_of(&rt, alloc, over, 64, &limits)? == Some(WireFault::BodyTooLong));
     Ok(())
 }
 

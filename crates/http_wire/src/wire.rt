@@ -1,5 +1,5 @@
 // Messages of a connection.
-ghost use Rattle.std.specs.Prelude.{◌≡◌, ◌≤◌, ◌++◌, ℕ, List, [], true, false, OnOk, OnErr, IfOk, IfSome};
+ghost use Rattle.std.specs.Prelude.{◌≡◌, ◌++◌, ℕ, List, [], true, false, OnOk, OnErr, IfOk, IfSome};
 ghost use Rattle.lti_outside.specs.Limits.{IsSound};
 ghost use Rattle.lti_outside.specs.Traffic.{Moves, IsAtEnd};
 ghost use Rattle.http_wire.specs.Spelling.{ReadTells, fault_of};

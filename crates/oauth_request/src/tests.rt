@@ -80,11 +80,7 @@ fn checked(
 }
 
 // The fault of a request, or none.
-fn fault_of(
-    rt: &impl Abort,
-    alloc: Global,
-    request: &Request,
-) -> Result<Option<AuthFault>, Fail> {
+fn fault_of(rt: &impl Abort, alloc: Global, request: &Request) -> Result<Option<AuthFault>, Fail> {
     Ok(checked(rt, alloc, request, 255)?.err())
 }
 
@@ -103,8 +99,9 @@ fn shown(alloc: Global, pairs: &Pairs) -> Result<String, Fail> {
 #[test]
 fn a_signed_form_says_whose_it_is(rt: HostRuntime) -> Result<(), Fail> {
     let alloc = rt.alloc();
-    let body =
-        format!(in alloc; "{UNSIGNED}&oauth_token=&oauth_signature=7x%2BHedphn7CGRmVbRWMS74KoKjo%3D")?;
+    let body = format!(in alloc;
+        "{UNSIGNED}&oauth_token=&oauth_signature=7x%2BHedphn7CGRmVbRWMS74KoKjo%3D"
+    )?;
     let sent = request(alloc, "", FORM, "", body.as_bytes())?;
     let signed = checked(&rt, alloc, &sent, 5)??;
     assert_eq!(rt; signed.key.get(), "12345");
@@ -120,8 +117,9 @@ fn a_signed_form_says_whose_it_is(rt: HostRuntime) -> Result<(), Fail> {
 #[test]
 fn a_signed_body_says_whose_it_is(rt: HostRuntime) -> Result<(), Fail> {
     let alloc = rt.alloc();
-    let header =
-        format!(in alloc; "{HEADER}, oauth_signature=\"VqI0tuIKQhL%2FgtSjoQI3drJoz%2Bo%3D\"")?;
+    let header = format!(in alloc;
+        "{HEADER}, oauth_signature=\"VqI0tuIKQhL%2FgtSjoQI3drJoz%2Bo%3D\""
+    )?;
     let sent = request(
         alloc,
         "course=7",
@@ -141,8 +139,7 @@ fn a_signed_body_says_whose_it_is(rt: HostRuntime) -> Result<(), Fail> {
 #[test]
 fn a_changed_body_is_refused_and_the_right_one_is_not(rt: HostRuntime) -> Result<(), Fail> {
     let alloc = rt.alloc();
-    let header =
-        format!(in alloc; "{HEADER}, oauth_signature=\"TXXFW8SPFHHQP3gjLrbBUYAHTBU%3D\"")?;
+    let header = format!(in alloc; "{HEADER}, oauth_signature=\"TXXFW8SPFHHQP3gjLrbBUYAHTBU%3D\"")?;
     let right = request(alloc, "", "application/xml", header.as_str(), b"<a/>")?;
     let changed = request(alloc, "", "application/xml", header.as_str(), b"<b/>")?;
     assert_eq!(rt;
@@ -156,8 +153,7 @@ fn a_changed_body_is_refused_and_the_right_one_is_not(rt: HostRuntime) -> Result
 #[test]
 fn the_query_is_signed(rt: HostRuntime) -> Result<(), Fail> {
     let alloc = rt.alloc();
-    let body =
-        format!(in alloc; "{UNSIGNED}&oauth_signature=iU0BHVRPiXQ8hILAwVFgx%2BFJjFY%3D")?;
+    let body = format!(in alloc; "{UNSIGNED}&oauth_signature=iU0BHVRPiXQ8hILAwVFgx%2BFJjFY%3D")?;
     let right = request(alloc, "course=7", FORM, "", body.as_bytes())?;
     let other = request(alloc, "course=8", FORM, "", body.as_bytes())?;
     assert_eq!(rt; fault_of(&rt, alloc, &right)?, None);
@@ -192,7 +188,9 @@ fn each_fault_of_a_form(rt: HostRuntime) -> Result<(), Fail> {
             Some(AuthFault::Missing(Field::Signature)),
         ),
         (
-            format!(in alloc; "oauth_consumer_key=12345&oauth_signature_method=PLAINTEXT&oauth_timestamp=1&oauth_nonce=n&{right}")?,
+            format!(in alloc;
+                "oauth_consumer_key=12345&oauth_signature_method=PLAINTEXT&oauth_timestamp=1&oauth_nonce=n&{right}"
+            )?,
             Some(AuthFault::UnsupportedMethod),
         ),
         (
@@ -204,11 +202,15 @@ fn each_fault_of_a_form(rt: HostRuntime) -> Result<(), Fail> {
             Some(AuthFault::TokenNotSupported),
         ),
         (
-            format!(in alloc; "oauth_consumer_key=12345&oauth_signature_method=HMAC-SHA1&oauth_timestamp=0&oauth_nonce=n&{right}")?,
+            format!(in alloc;
+                "oauth_consumer_key=12345&oauth_signature_method=HMAC-SHA1&oauth_timestamp=0&oauth_nonce=n&{right}"
+            )?,
             Some(AuthFault::BadTimestamp),
         ),
         (
-            format!(in alloc; "oauth_consumer_key=12345&oauth_signature_method=HMAC-SHA1&oauth_timestamp=1&oauth_nonce=&{right}")?,
+            format!(in alloc;
+                "oauth_consumer_key=12345&oauth_signature_method=HMAC-SHA1&oauth_timestamp=1&oauth_nonce=&{right}"
+            )?,
             Some(AuthFault::BadNonce),
         ),
         (
@@ -239,7 +241,8 @@ fn each_fault_of_a_form(rt: HostRuntime) -> Result<(), Fail> {
 fn each_fault_of_a_header(rt: HostRuntime) -> Result<(), Fail> {
     let alloc = rt.alloc();
     let signature = "oauth_signature=\"TXXFW8SPFHHQP3gjLrbBUYAHTBU%3D\"";
-    let hashless = "OAuth oauth_consumer_key=\"12345\", oauth_signature_method=\"HMAC-SHA1\", oauth_timestamp=\"1\", oauth_nonce=\"n\"";
+    let hashless =
+        "OAuth oauth_consumer_key=\"12345\", oauth_signature_method=\"HMAC-SHA1\", oauth_timestamp=\"1\", oauth_nonce=\"n\"";
     let texts = [
         (
             String::from_str(alloc, "OAuth a=\"1\", b=2")?,
@@ -325,7 +328,10 @@ fn a_key_as_long_as_the_limit(rt: HostRuntime) -> Result<(), Fail> {
     let body = format!(in alloc; "{UNSIGNED}&oauth_signature=UeItB3GozT2T2NU41cFJ0zdwiZg%3D")?;
     let sent = request(alloc, "", FORM, "", body.as_bytes())?;
     assert!(rt; checked(&rt, alloc, &sent, 5)?.is_ok());
-    assert_eq!(rt; checked(&rt, alloc, &sent, 4)?.err(), Some(AuthFault::TooLong));
+    assert_eq!(rt;
+        checked(&rt, alloc, &sent, 4)?.err(),
+        Some(AuthFault::TooLong)
+    );
     Ok(())
 }
 

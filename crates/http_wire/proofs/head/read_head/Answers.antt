@@ -1,4 +1,4 @@
-use Rattle.std.proofs.Common.{◌≡◌, false, inl, inr, refl, sym, arith, IsAscii, subst, ◌∙◌, None, map, take}
+use Rattle.std.proofs.Common.{◌≡◌, inl, inr, refl, sym, arith, IsAscii, subst, ◌∙◌, None, map, take}
 use Rattle.httparse.specs.Spans.{header_bytes}
 use Rattle.http_wire.specs.Conditions.{first_fault}
 use Rattle.http_wire.specs.Lines.{line_conditions}

@@ -1,9 +1,8 @@
-use Rattle.std.proofs.Common.{◌≡◌, ◌≤◌, ◌∷◌, List, ℕ, [], length, filter, map, codes, IsAscii, subst, ap, arith}
+use Rattle.std.proofs.Common.{◌≤◌, List, ℕ, length, filter, map, codes, IsAscii, subst, ap, arith}
 use Rattle.std.proofs.lemmas.List.{length-map}
 use Rattle.std.proofs.lemmas.Result.{IfOk-weaker}
-use Rattle.oauth_text.specs.Host.{IsHostOf}
 use Rattle.httparse.specs.Spans.{header_bytes}
-use Rattle.http_wire.specs.Headers.{is_named, values_of, first_in, is_one_host}
+use Rattle.http_wire.specs.Headers.{is_named, values_of, first_in}
 use Rattle.http_wire.proofs.HeaderLemmas.{host_is_ascii, one_value, host_found, host_bad}
 use Rattle.http_wire.proofs.head.read_host.Goals as goal
 

@@ -1,4 +1,4 @@
-use Rattle.std.proofs.Common.{◌≡◌, ◌-◌, ℕ, List, [], ◌++◌, subst, sym, ap, ◌∙◌, append_assoc, length, arith, length-append}
+use Rattle.std.proofs.Common.{◌-◌, ℕ, List, ◌++◌, subst, sym, ap, ◌∙◌, append_assoc, length, arith, length-append}
 use Rattle.std.specs.Prelude.{⊤}
 use Rattle.std.proofs.lemmas.Result.{err_from_is_err_and}
 use Rattle.lti_outside.proofs.TrafficLemmas.{Moves-takes}

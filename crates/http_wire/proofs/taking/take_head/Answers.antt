@@ -1,8 +1,8 @@
-use Rattle.std.proofs.Common.{◌≡◌, ◌-◌, [], ◌∷◌, ◌++◌, subst, sym, ap, ◌∙◌, append_assoc, append-nil, length, arith, length-append}
+use Rattle.std.proofs.Common.{◌≡◌, ◌-◌, [], ◌∷◌, ◌++◌, subst, sym, ap, ◌∙◌, append_assoc, length, arith, length-append}
 use Rattle.std.proofs.lemmas.Result.{err_from_is_err_and}
 use Rattle.lti_outside.proofs.TrafficLemmas.{Moves-takes}
 use Rattle.http_wire.specs.Shape.{HasNoHead, IsHead}
-use Rattle.http_wire.proofs.HeldLemmas.{joins, joined_run}
+use Rattle.http_wire.proofs.HeldLemmas.{joined_run}
 use Rattle.http_wire.proofs.ShapeLemmas.{run_failed, head_after_run, none_after_run}
 use Rattle.http_wire.proofs.taking.take_head.Goals as goal
 

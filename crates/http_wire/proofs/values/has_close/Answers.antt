@@ -1,4 +1,4 @@
-use Rattle.std.proofs.Common.{sym, ◌∙◌, arith, length-take, length-drop, length, take, drop, ◌-◌, ◌+◌}
+use Rattle.std.proofs.Common.{sym, ◌∙◌, arith, length-take, length-drop, length, drop, ◌-◌, ◌+◌}
 use Rattle.http_wire.proofs.CloseLemmas.{close_behind, close_found, close_last}
 use Rattle.http_wire.proofs.values.has_close.Goals as goal
 

@@ -1,8 +1,7 @@
-use Rattle.std.proofs.Common.{◌≡◌, ℕ, List, [], ◌∷◌, ◌++◌, codes, subst, ap, ◌∙◌}
+use Rattle.std.proofs.Common.{◌≡◌, ℕ, List, [], ◌++◌, codes, subst, ap, ◌∙◌}
 use Rattle.std.specs.Prelude.{OnOk, OnErr}
 use Rattle.lti_outside.specs.Traffic.{Moves, no_fault, GivesFront}
 use Rattle.http_wire.specs.Message.{RequestParts, parts_of}
-use Rattle.http_wire.specs.Pieces.{joined}
 use Rattle.http_wire.specs.Written.{where_some, request_text}
 use Rattle.http_wire.proofs.WrittenLemmas.{port_pieces, pieces_of, pieces_are_text}
 use Rattle.http_wire.proofs.written.give_request.Given.{Over}

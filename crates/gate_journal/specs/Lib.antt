@@ -1,0 +1,5 @@
+pub mod Half
+pub mod Doubt
+pub mod Journal
+pub mod Pieces
+pub mod Read

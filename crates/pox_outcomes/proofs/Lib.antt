@@ -1,0 +1,16 @@
+pub mod LanguageLemmas
+pub mod RunLemmas
+pub mod MarkupLemmas
+pub mod ChoiceLemmas
+pub mod CharacterLemmas
+pub mod NumberLemmas
+pub mod ReferenceLemmas
+pub mod CarriedLemmas
+pub mod TextLemmas
+pub mod Utf8Lemmas
+pub mod LeafLemmas
+pub mod AttributeLemmas
+pub mod DeclarationLemmas
+pub mod RequestLemmas
+pub mod DocumentLemmas
+pub mod WritingLemmas

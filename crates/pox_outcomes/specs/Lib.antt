@@ -1,0 +1,14 @@
+pub mod Language
+pub mod Stops
+pub mod Markup
+pub mod Characters
+pub mod References
+pub mod Texts
+pub mod Leaves
+pub mod Attributes
+pub mod Declaration
+pub mod Request
+pub mod BadRequest
+pub mod Written
+pub mod Refusal
+pub mod Answered

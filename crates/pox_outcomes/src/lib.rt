@@ -1,0 +1,32 @@
+//! Outcome envelopes: the XML of the Basic Outcomes service, read and written (LTI 1.1.1, section 6, and the
+//! schema imsoms_v1p0).
+//!
+//! A closed grammar of the bytes says which envelopes there are; `specs/` states it apart from the reader.
+//! Promised: an envelope is read as exactly the outcome that it spells, and bytes that are no envelope are
+//! refused with the number of them that begin one. A request is written as one exact text.
+#![tactic(auto)]
+
+mod answers;
+mod attributes;
+mod characters;
+mod declaration;
+mod faults;
+mod leaves;
+mod markup;
+mod outcome;
+mod puts;
+mod references;
+mod requests;
+mod stops;
+#[cfg(test)]
+mod tests;
+mod texts;
+mod told;
+mod writing;
+
+pub use answers::{answer_room, write_answer};
+pub use faults::{EnvelopeFault, EnvelopeRefusal};
+pub use outcome::{Operation, Outcome};
+pub use requests::read_request;
+pub use told::Told;
+pub use writing::write_request;

@@ -1,0 +1,161 @@
+use crate::{
+    EnvelopeFault, EnvelopeRefusal, Operation, Outcome, Told, answer_room, read_request,
+    write_answer, write_request,
+};
+use lti_outside::{Bytes, Text};
+use std::alloc::Global;
+use std::test::Fail;
+
+const REPLACE: &str =
+    "<?xml version=\"1.0\" encoding=\"UTF-8\"?><imsx_POXEnvelopeRequest xmlns=\"http://www.imsglobal.org/services/ltiv1p1/xsd/imsoms_v1p0\"><imsx_POXHeader><imsx_POXRequestHeaderInfo><imsx_version>V1.0</imsx_version><imsx_messageIdentifier>999999123</imsx_messageIdentifier></imsx_POXRequestHeaderInfo></imsx_POXHeader><imsx_POXBody><replaceResultRequest><resultRecord><sourcedGUID><sourcedId>3124567</sourcedId></sourcedGUID><result><resultScore><language>en</language><textString>0.92</textString></resultScore></result></resultRecord></replaceResultRequest></imsx_POXBody></imsx_POXEnvelopeRequest>";
+
+// Whether the bytes are an envelope of the outcome.
+fn reads(alloc: Global, bytes: &[u8], operation: Operation, id: &str, score: &str) -> bool {
+    match read_request(alloc, bytes) {
+        Ok(outcome) => {
+            outcome.message.get() == "999999123"
+                && outcome.operation == operation
+                && outcome.sourced_id.get() == id
+                && outcome.score_text.get() == score
+        }
+        Err(_) => false,
+    }
+}
+
+// Whether the bytes are bad behind so many of them.
+fn is_bad(alloc: Global, bytes: &[u8], place: usize) -> bool {
+    match read_request(alloc, bytes) {
+        Err(EnvelopeFault::BadEnvelope { at }) => at == place as u64,
+        _ => false,
+    }
+}
+
+#[test]
+fn spellings_of_envelopes_are_read(rt: HostRuntime) {
+    let spellings = [
+        REPLACE,
+        "<imsx_POXEnvelopeRequest xmlns='http://www.imsglobal.org/services/ltiv1p1/xsd/imsoms_v1p0'><imsx_POXHeader><imsx_POXRequestHeaderInfo><imsx_version>V1.0</imsx_version><imsx_messageIdentifier>999999123</imsx_messageIdentifier></imsx_POXRequestHeaderInfo></imsx_POXHeader><imsx_POXBody><replaceResultRequest><resultRecord><sourcedGUID><sourcedId>3124567</sourcedId></sourcedGUID><result><resultScore><language/><textString>0.92</textString></resultScore></result></resultRecord></replaceResultRequest></imsx_POXBody></imsx_POXEnvelopeRequest>",
+        "<?xml version='1.0' encoding='utf-8' standalone='yes' ?>\r\n<imsx_POXEnvelopeRequest xmlns:xsi=\"http://www.w3.org/2001/XMLSchema-instance\" xmlns = \"urn:x\" >\n  <imsx_POXHeader>\n    <imsx_POXRequestHeaderInfo>\n      <imsx_version> V1.0 </imsx_version>\n      <imsx_messageIdentifier>\n        999999123\n      </imsx_messageIdentifier>\n    </imsx_POXRequestHeaderInfo>\n  </imsx_POXHeader>\n  <imsx_POXBody>\n    <replaceResultRequest>\n      <resultRecord>\n        <sourcedGUID>\n          <sourcedId>3124567</sourcedId>\n        </sourcedGUID>\n        <result>\n          <resultScore>\n            <textString >0.92</textString >\n          </resultScore>\n        </result>\n      </resultRecord>\n    </replaceResultRequest>\n  </imsx_POXBody>\n</imsx_POXEnvelopeRequest>\n",
+        "<?xml version = \"1.0\"?><imsx_POXEnvelopeRequest xmlns=\"\"><imsx_POXHeader><imsx_POXRequestHeaderInfo><imsx_version>V1.0</imsx_version><imsx_messageIdentifier>&#57;99999123</imsx_messageIdentifier></imsx_POXRequestHeaderInfo></imsx_POXHeader><imsx_POXBody><replaceResultRequest><resultRecord><sourcedGUID><sourcedId>312&#x34;56&#x000037;</sourcedId></sourcedGUID><result><resultScore><language>\u{e9}</language><textString>0.92</textString></resultScore></result></resultRecord></replaceResultRequest></imsx_POXBody></imsx_POXEnvelopeRequest>",
+    ];
+    for spelling in spellings {
+        assert!(rt;
+            reads(
+                rt.alloc(),
+                spelling.as_bytes(),
+                Operation::ReplaceResult,
+                "3124567",
+                "0.92"
+            )
+        );
+    }
+}
+
+#[test]
+fn other_operations_are_read(rt: HostRuntime) {
+    let read =
+        "<imsx_POXEnvelopeRequest xmlns='x'><imsx_POXHeader><imsx_POXRequestHeaderInfo><imsx_version>V1.0</imsx_version><imsx_messageIdentifier>999999123</imsx_messageIdentifier></imsx_POXRequestHeaderInfo></imsx_POXHeader><imsx_POXBody><readResultRequest><resultRecord><sourcedGUID><sourcedId> a &lt;&amp;&gt; \u{20ac}\u{10348} </sourcedId></sourcedGUID></resultRecord></readResultRequest></imsx_POXBody></imsx_POXEnvelopeRequest>";
+    let delete =
+        "<imsx_POXEnvelopeRequest xmlns='x'><imsx_POXHeader><imsx_POXRequestHeaderInfo><imsx_version>V1.0</imsx_version><imsx_messageIdentifier>999999123</imsx_messageIdentifier></imsx_POXRequestHeaderInfo></imsx_POXHeader><imsx_POXBody><deleteResultRequest><resultRecord><sourcedGUID><sourcedId/></sourcedGUID></resultRecord></deleteResultRequest></imsx_POXBody></imsx_POXEnvelopeRequest>";
+    assert!(rt;
+        reads(
+            rt.alloc(),
+            read.as_bytes(),
+            Operation::ReadResult,
+            "a <&> \u{20ac}\u{10348}",
+            ""
+        )
+    );
+    assert!(rt;
+        reads(
+            rt.alloc(),
+            delete.as_bytes(),
+            Operation::DeleteResult,
+            "",
+            ""
+        )
+    );
+}
+
+#[test]
+fn bad_envelopes_are_refused_at_their_place(rt: HostRuntime) {
+    let texts = [
+        ("", 0),
+        ("\u{feff}<?xml", 0),
+        ("<imsx_POXEnvelopeRequest>", 24),
+        ("<imsx_POXEnvelopeRequest xmlns=x", 31),
+        ("<imsx_POXEnvelopeRequest xmlns='<'", 32),
+        ("<imsx_POXEnvelopeResponse", 19),
+        ("<?xml version='1.1'", 17),
+        ("<?xml version='1.0' encoding='latin1'", 30),
+        (" <?xml", 2),
+    ];
+    for (text, place) in texts {
+        assert!(rt; is_bad(rt.alloc(), text.as_bytes(), place));
+    }
+}
+
+#[test]
+fn bytes_behind_the_root_and_a_missing_byte(rt: HostRuntime) {
+    let whole = REPLACE.as_bytes();
+    let mut long = [0; 640];
+    let len = whole.len();
+    assert!(rt; len < 600);
+    for (place, b) in whole.iter().enumerate() {
+        if place < 640 {
+            long[place] = *b;
+        }
+    }
+    long[len] = b'x';
+    assert!(rt; is_bad(rt.alloc(), &long[..len + 1], len));
+    assert!(rt; is_bad(rt.alloc(), &whole[..len - 1], len - 1));
+}
+
+#[test]
+fn the_envelope_of_an_outcome_is_written(rt: HostRuntime) -> Result<(), Fail> {
+    let outcome = Outcome {
+        message: Text::new(rt.alloc(), "999999123")?,
+        operation: Operation::ReplaceResult,
+        sourced_id: Text::new(rt.alloc(), "3124567")?,
+        score_text: Text::new(rt.alloc(), "0.92")?,
+    };
+    let written = write_request(rt.alloc(), &outcome)?;
+    assert!(rt; written.get() == REPLACE.as_bytes());
+    Ok(())
+}
+
+#[test]
+fn other_characters_are_refused(rt: HostRuntime) -> Result<(), Fail> {
+    let outcome = Outcome {
+        message: Text::new(rt.alloc(), "1")?,
+        operation: Operation::ReadResult,
+        sourced_id: Text::new(rt.alloc(), "\u{1}")?,
+        score_text: Text::empty(rt.alloc()),
+    };
+    match write_request(rt.alloc(), &outcome) {
+        Err(refusal) => assert!(rt; refusal == EnvelopeRefusal::NotXml),
+        Ok(_) => assert!(rt; false),
+    }
+    Ok(())
+}
+
+#[test]
+fn answers_are_written_within_their_room(rt: HostRuntime) -> Result<(), Fail> {
+    let outcome = Outcome {
+        message: Text::new(rt.alloc(), "7")?,
+        operation: Operation::ReadResult,
+        sourced_id: Text::new(rt.alloc(), "9 ")?,
+        score_text: Text::empty(rt.alloc()),
+    };
+    let mut out = Bytes::new(rt.alloc());
+    let room = answer_room(&outcome);
+    assert!(rt; room < 4096);
+    out.reserve(room)?;
+    let before = out.spare();
+    write_answer(&outcome, Told::UnknownId, &mut out);
+    assert!(rt; out.spare() < before);
+    let answer =
+        "<?xml version=\"1.0\" encoding=\"UTF-8\"?><imsx_POXEnvelopeResponse xmlns=\"http://www.imsglobal.org/services/ltiv1p1/xsd/imsoms_v1p0\"><imsx_POXHeader><imsx_POXResponseHeaderInfo><imsx_version>V1.0</imsx_version><imsx_messageIdentifier>7</imsx_messageIdentifier><imsx_statusInfo><imsx_codeMajor>failure</imsx_codeMajor><imsx_severity>error</imsx_severity><imsx_description>Unknown sourcedId 9&#32;</imsx_description><imsx_messageRefIdentifier>7</imsx_messageRefIdentifier><imsx_operationRefIdentifier>readResult</imsx_operationRefIdentifier></imsx_statusInfo></imsx_POXResponseHeaderInfo></imsx_POXHeader><imsx_POXBody><readResultResponse/></imsx_POXBody></imsx_POXEnvelopeResponse>";
+    assert!(rt; out.get() == answer.as_bytes());
+    Ok(())
+}
