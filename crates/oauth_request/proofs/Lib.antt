@@ -5,3 +5,4 @@ pub mod ResultLemmas
 pub mod CheckedLemmas
 pub mod OneAnswerLemmas
 pub mod SigningLemmas
+pub mod BelievedLemmas

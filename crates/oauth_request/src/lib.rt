@@ -23,5 +23,5 @@ pub use checking::{Signed, check};
 pub use faults::AuthFault;
 pub use fields::Field;
 pub use keys::{Keys, KeysFault};
-pub use laws::one_answer;
+pub use laws::{one_answer, signed_is_believed};
 pub use signing::{sign_body, sign_form};

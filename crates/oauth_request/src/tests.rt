@@ -4,7 +4,7 @@ use super::*;
 use http_wire::Request;
 use lti_outside::{Bytes, Limits, NoMemory, Pair, Pairs, Tap, Text};
 use oauth_sign::BodyHash;
-use oauth_text::{Host, Scheme};
+use oauth_text::{Host, Scheme, Url, form_text};
 use std::alloc::Global;
 use std::process::Abort;
 use std::test::Fail;
@@ -391,5 +391,71 @@ fn statuses_and_names(rt: HostRuntime) -> Result<(), Fail> {
         assert_eq!(rt; field.name(), name);
     }
     one_answer();
+    Ok(())
+}
+
+const SIGNED_AT: &str = "HTTPS://Tool.Example:8443/lti/launch?course=7";
+
+// Posts a body to SIGNED_AT.
+fn posted(alloc: Global, media: &str, authorization: &str, body: &[u8]) -> Result<Request, Fail> {
+    let mut sent = request(alloc, "course=7", media, authorization, body)?;
+    sent.host = Host::read(alloc, "tool.example:8443")?;
+    Ok(sent)
+}
+
+#[test]
+fn a_form_is_signed_and_believed(rt: HostRuntime) -> Result<(), Fail> {
+    let alloc = rt.alloc();
+    let url = Url::read(alloc, SIGNED_AT)?;
+    let fields = pairs(alloc, &[("a", "1 2")])?;
+    let signed = sign_form(
+        alloc,
+        &url,
+        &fields,
+        "12345",
+        "secret",
+        1_400_000_000,
+        "n 1",
+    )?;
+    assert_eq!(rt;
+        shown(alloc, &signed)?.as_str(),
+        "a=1 2\noauth_consumer_key=12345\noauth_signature_method=HMAC-SHA1\noauth_timestamp=1400000000\noauth_nonce=n 1\noauth_version=1.0\noauth_callback=about:blank\noauth_signature=KH3yRoIB2GwMrfQhoYMTwsvqbq0=\n"
+    );
+    let body = form_text(alloc, &signed)?;
+    let sent = posted(alloc, FORM, "", body.get())?;
+    assert_eq!(rt; fault_of(&rt, alloc, &sent)?, None);
+    Ok(())
+}
+
+#[test]
+fn a_body_is_signed_and_believed(rt: HostRuntime) -> Result<(), Fail> {
+    let alloc = rt.alloc();
+    let url = Url::read(alloc, SIGNED_AT)?;
+    let mut body = Bytes::new(alloc);
+    body.push(b"<a/>")?;
+    let sent = sign_body(
+        alloc,
+        &url,
+        "application/xml",
+        body,
+        "12345",
+        "secret",
+        1_400_000_000,
+        "n 1",
+    )?;
+    assert_eq!(rt;
+        sent.authorization.get(),
+        "OAuth oauth_consumer_key=\"12345\", oauth_signature_method=\"HMAC-SHA1\", oauth_timestamp=\"1400000000\", oauth_nonce=\"n%201\", oauth_version=\"1.0\", oauth_body_hash=\"25qoZjLG8syZaEot0V0rZIKOdiI%3D\", oauth_signature=\"nob7wvx5x98gMqe0uoF6g2ad73Y%3D\""
+    );
+    assert_eq!(rt; sent.method.get(), "POST");
+    assert_eq!(rt; sent.path.get(), "/lti/launch");
+    assert_eq!(rt; sent.query.get(), "course=7");
+    assert_eq!(rt; sent.host.name.get(), "tool.example");
+    assert_eq!(rt; sent.host.port, Some(8443));
+    assert_eq!(rt; sent.media.get(), "application/xml");
+    assert_eq!(rt; sent.body.get(), b"<a/>".as_slice());
+    assert!(rt; sent.close);
+    assert_eq!(rt; fault_of(&rt, alloc, &sent)?, None);
+    signed_is_believed();
     Ok(())
 }
