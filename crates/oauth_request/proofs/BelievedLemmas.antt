@@ -1,5 +1,5 @@
 -- What this end signs has no fault at the other.
-use Rattle.std.proofs.Common.{◌≡◌, ℕ, ◌<◌, ◌≤◌, Bool, true, false, not, ◌||◌, ◌&&◌, ◌==◌, cond, nat_lt, List, [], ◌∷◌, ◌++◌, length, refl, sym, ap, ◌∙◌, subst, append_assoc, append-nil, arith, Option, Some, None}
+use Rattle.std.proofs.Common.{◌≡◌, ℕ, ◌≤◌, Bool, true, false, not, ◌||◌, ◌&&◌, ◌==◌, cond, nat_lt, List, [], ◌∷◌, ◌++◌, length, refl, sym, ap, ◌∙◌, subst, append_assoc, append-nil, arith, Some, None}
 use Rattle.std.specs.Prelude.{codes, decimal, filter, bytes_eq}
 use Rattle.std.specs.List.{list_any}
 use Rattle.std.proofs.lemmas.Bool.Decides.{nat_tests}
@@ -15,10 +15,10 @@ use Rattle.oauth_sign.specs.Body.{body_hash}
 use Rattle.oauth_sign.specs.Signature.{IsSignature}
 use Rattle.oauth_header.specs.Header.{IsHeader, header_pairs}
 use Rattle.http_wire.specs.Message.{RequestParts}
-use Rattle.oauth_request.specs.Protocol.{key_name, signature_name, body_hash_name, values, is_bad_timestamp, is_empty, is_long, IsTimestamp}
+use Rattle.oauth_request.specs.Protocol.{signature_name, body_hash_name, values, is_bad_timestamp, is_empty, is_long}
 use Rattle.oauth_request.specs.Secret.{secret_in}
 use Rattle.oauth_request.specs.Conditions.{first_fault, duplicate_conditions, missing_conditions, text_conditions}
-use Rattle.oauth_request.specs.Checked.{Terms, form_type, is_form, all_pairs, parameters, conditions_of, IsReadable, IsSignedBy, IsSigned}
+use Rattle.oauth_request.specs.Checked.{Terms, form_type, is_form, all_pairs, parameters, conditions_of, IsReadable, IsSignedBy}
 use Rattle.oauth_request.specs.Signing.{CanSign, HoldsNone, protocol_pairs, callback_pair, pair, form_pairs, body_pairs, IsSignatureOf, IsSignedForm, IsSignedBody, AreTermsOf, PostsForm, IsBelieved, SignedIsBelieved}
 use Rattle.oauth_request.specs.declared.fields.Field.TheVariants as field
 use Rattle.oauth_request.proofs.ConditionLemmas.{is_left, is_fine}

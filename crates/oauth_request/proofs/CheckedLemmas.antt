@@ -1,5 +1,5 @@
 -- Which requests are well signed, and the one fault of any other.
-use Rattle.std.proofs.Common.{◌≡◌, ◌≢◌, ℕ, ◌<◌, ◌≤◌, ◌^◌, Bool, true, false, not, ◌||◌, ◌&&◌, ◌==◌, cond, List, [], ◌∷◌, ◌++◌, length, refl, sym, ap, ◌∙◌, subst, arith, Option, Some, None}
+use Rattle.std.proofs.Common.{◌≡◌, ◌≢◌, ℕ, ◌<◌, ◌≤◌, ◌^◌, Bool, true, false, not, ◌&&◌, ◌==◌, cond, List, [], ◌∷◌, ◌++◌, length, refl, sym, ap, ◌∙◌, subst, arith, Option, Some}
 use Rattle.std.specs.List.{list_all}
 use Rattle.std.specs.Str.Parse.{digits_value}
 use Rattle.std.proofs.lemmas.Bool.{or_parts}
@@ -11,10 +11,10 @@ use Rattle.lti_outside.specs.Decimal.{is_decimal}
 use Rattle.lti_outside.proofs.DigitLemmas.{digits_small, decimal_parts}
 use Rattle.lti_outside.proofs.BoolLemmas.{and_split}
 use Rattle.http_wire.specs.Message.{RequestParts}
-use Rattle.oauth_request.specs.Protocol.{IsTimestamp, key_name, signature_name, values}
+use Rattle.oauth_request.specs.Protocol.{IsTimestamp}
 use Rattle.oauth_request.specs.Secret.{secret_in}
 use Rattle.oauth_request.specs.Conditions.{Condition, first_fault, IsFirstOf, duplicate_conditions, missing_conditions, text_conditions, credential_conditions}
-use Rattle.oauth_request.specs.Checked.{Terms, IsReadable, IsSigned, IsSignedBy, IsWellSigned, IsAuthFault, conditions_of, conditions, is_form, all_pairs}
+use Rattle.oauth_request.specs.Checked.{Terms, IsReadable, IsSigned, IsSignedBy, IsAuthFault, conditions_of, conditions, is_form, all_pairs}
 use Rattle.oauth_request.specs.Given.{AreCredentials}
 use Rattle.oauth_request.specs.Reading.{IsReadingFault}
 use Rattle.oauth_request.specs.declared.credentials.Credentials.{Credentials}

@@ -1,10 +1,9 @@
 -- Keys and their secrets.
-use Rattle.std.proofs.Common.{◌≡◌, ℕ, ◌+◌, ◌<◌, ◌≤◌, Bool, true, false, cond, List, [], ◌∷◌, ◌++◌, length, get_or, take, drop, bytes_eq, refl, sym, ap, ◌∙◌, subst, Option, Some, None, arith}
+use Rattle.std.proofs.Common.{◌≡◌, ℕ, ◌+◌, ◌<◌, ◌≤◌, Bool, true, false, cond, List, [], ◌∷◌, ◌++◌, length, get_or, take, drop, bytes_eq, refl, ap, subst, Some, None, arith}
 use Rattle.std.specs.Prelude.{find, All}
 use Rattle.std.proofs.lemmas.Slice.Eq.{bytes_eq-Decides}
-use Rattle.std.proofs.lemmas.List.{drop_more, take_more, take_all}
+use Rattle.std.proofs.lemmas.List.{drop_more, take_more}
 use Rattle.std.proofs.lemmas.List.Elements.{All-head, All-tail, All-append}
-use Rattle.std.proofs.Math.ListN.{drop_of_length-le}
 use Rattle.lti_outside.specs.declared.pairs.Pair.{Pair}
 use Rattle.oauth_request.specs.Secret.{AreShort, key_fault, or_later, first_key_fault}
 use Rattle.oauth_request.specs.declared.keys.KeysFault.{KeysFault}

@@ -1,15 +1,13 @@
 -- A request has one answer.
-use Rattle.std.proofs.Common.{◌≡◌, ◌⊎◌, inl, inr, ℕ, Bool, true, false, not, List, [], ◌∷◌, ◌++◌, refl, sym, ap, ◌∙◌, subst, ⊎_elim, Option, Some, None}
+use Rattle.std.proofs.Common.{◌≡◌, ◌⊎◌, inl, inr, ℕ, true, List, [], ◌∷◌, ◌++◌, refl, sym, ap, ◌∙◌, subst, Some, None}
 use Rattle.std.specs.Str.Parse.{digits_value}
-use Rattle.lti_outside.specs.declared.pairs.Pair.{Pair}
 use Rattle.oauth_text.specs.Form.{IsForm}
 use Rattle.oauth_header.specs.Item.{IsItem}
 use Rattle.oauth_header.specs.Items.{Placed}
 use Rattle.oauth_header.specs.Header.{IsHeader, AreItems, IsFirstBad, items_of}
 use Rattle.http_wire.specs.Message.{RequestParts}
-use Rattle.oauth_request.specs.Protocol.{values, key_name, timestamp_name, nonce_name, IsTimestamp}
 use Rattle.oauth_request.specs.Conditions.{first_fault}
-use Rattle.oauth_request.specs.Checked.{Terms, IsReadable, IsSigned, IsWellSigned, IsAuthFault, Says, conditions, is_form, all_pairs}
+use Rattle.oauth_request.specs.Checked.{Terms, IsReadable, IsSigned, IsWellSigned, IsAuthFault, Says, conditions, is_form}
 use Rattle.oauth_request.specs.Laws.{OneAnswer}
 use Rattle.oauth_request.specs.declared.checking.Signed.{Signed}
 use Rattle.oauth_request.specs.declared.faults.AuthFault.{AuthFault}

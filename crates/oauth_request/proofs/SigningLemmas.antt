@@ -1,17 +1,17 @@
 -- What this end signs is well signed at the other.
-use Rattle.std.proofs.Common.{◌≡◌, ℕ, ◌+◌, ◌<◌, ◌≤◌, ◌^◌, Bool, true, false, not, ◌||◌, ◌&&◌, ◌==◌, cond, leb, nat_lt, List, [], ◌∷◌, ◌++◌, length, map, refl, sym, ap, ◌∙◌, subst, append_assoc, append-nil, arith, Option, Some, None, Result, Ok, Err, OnOk}
+use Rattle.std.proofs.Common.{◌≡◌, ℕ, ◌<◌, ◌≤◌, Bool, true, false, not, ◌||◌, ◌&&◌, ◌==◌, leb, List, [], ◌∷◌, ◌++◌, length, map, refl, sym, ap, ◌∙◌, arith, Result, Ok, Err, OnOk}
 use Rattle.std.proofs.lemmas.List.{map-append}
 use Rattle.std.proofs.lemmas.List.Elements.{filter-append}
 use Rattle.std.specs.Prelude.{codes, decimal, filter, bytes_eq}
 use Rattle.std.specs.List.{list_all, list_any}
 use Rattle.std.specs.Char.{is_ascii_digit, digit_value}
-use Rattle.std.specs.Str.Parse.{AllDigits, digits_value}
+use Rattle.std.specs.Str.Parse.{AllDigits}
 use Rattle.std.proofs.lemmas.Bool.Decides.{nat_tests}
 use Rattle.std.proofs.lemmas.Fmt.{decimal_is_IsNumeral_wide, length-decimal-le_wide}
 use Rattle.lti_outside.specs.Decimal.{is_decimal}
 use Rattle.lti_outside.specs.declared.pairs.Pair.{Pair}
-use Rattle.oauth_header.specs.Written.{can_be_written, can_stand}
-use Rattle.oauth_request.specs.Protocol.{key_name, method_name, timestamp_name, nonce_name, signature_name, version_name, token_name, body_hash_name, name_of, values, is_bad_timestamp, IsTimestamp}
+use Rattle.oauth_header.specs.Written.{can_be_written}
+use Rattle.oauth_request.specs.Protocol.{key_name, method_name, timestamp_name, nonce_name, signature_name, version_name, token_name, body_hash_name, name_of, values, IsTimestamp}
 use Rattle.oauth_request.specs.Signing.{protocol_pairs, callback_pair, pair, HoldsNone}
 use Rattle.oauth_request.specs.declared.fields.Field.{Field}
 use Rattle.oauth_request.specs.declared.fields.Field.TheVariants as field

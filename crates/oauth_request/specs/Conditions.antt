@@ -1,5 +1,5 @@
 -- What is wrong with the parameters of a request, in the order in which it is said (this project's own).
-use Rattle.std.specs.Prelude.{◌≡◌, ℕ, Bool, not, ◌&&◌, ◌||◌, ◌==◌, nat_lt, List, [], ◌∷◌, ◌++◌, length, map, bytes_eq, if◌then◌else◌, Option, None, Some, is_none, ⊤}
+use Rattle.std.specs.Prelude.{◌≡◌, ℕ, Bool, not, ◌&&◌, ◌||◌, ◌==◌, nat_lt, List, [], ◌∷◌, length, map, bytes_eq, if◌then◌else◌, Option, None, Some, is_none, ⊤}
 use Rattle.std.specs.List.{list_any}
 use Rattle.lti_outside.specs.declared.pairs.Pair.{Pair}
 use Rattle.oauth_sign.specs.Body.{body_hash}

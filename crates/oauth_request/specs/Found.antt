@@ -1,5 +1,5 @@
 -- What was found under the protocol's names.
-use Rattle.std.specs.Prelude.{◌≡◌, ◌<◌, ℕ, Bool, false, List, [], ◌∷◌, length, Option, MatchOption}
+use Rattle.std.specs.Prelude.{◌≡◌, ◌<◌, ℕ, List, [], ◌∷◌, length, Option, MatchOption}
 use Rattle.std.specs.Borrow.{Bor}
 use Rattle.lti_outside.specs.declared.pairs.Pair.{Pair}
 use Rattle.oauth_request.specs.Protocol.{values, key_name, method_name, timestamp_name, nonce_name, signature_name, version_name, token_name, body_hash_name}

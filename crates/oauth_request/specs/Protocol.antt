@@ -1,6 +1,6 @@
 -- The names of the protocol's parameters (RFC 5849, section 3.1, and the OAuth Request Body Hash draft), and the values
 -- that stand under them.
-use Rattle.std.specs.Prelude.{◌≡◌, ℕ, Bool, false, not, ◌||◌, ◌==◌, nat_lt, List, [], ◌∷◌, length, map, filter, codes, bytes_eq}
+use Rattle.std.specs.Prelude.{◌≡◌, ℕ, Bool, false, not, ◌||◌, ◌==◌, nat_lt, List, length, map, filter, codes, bytes_eq}
 use Rattle.std.specs.Str.Parse.{digits_value}
 use Rattle.lti_outside.specs.declared.pairs.Pair.{Pair}
 use Rattle.lti_outside.specs.Decimal.{is_decimal}

@@ -1,5 +1,5 @@
 -- Consumer keys and their secrets (RFC 5849, section 1.1: client credentials).
-use Rattle.std.specs.Prelude.{◌≡◌, ℕ, ◌<◌, ◌≤◌, Bool, ◌==◌, nat_lt, List, [], ◌∷◌, ◌++◌, length, find, bytes_eq, if◌then◌else◌, Option, None, Some, All}
+use Rattle.std.specs.Prelude.{ℕ, ◌<◌, ◌≤◌, Bool, ◌==◌, nat_lt, List, [], ◌∷◌, ◌++◌, length, find, bytes_eq, if◌then◌else◌, Option, None, Some, All}
 use Rattle.std.specs.Option.{option_map}
 use Rattle.std.specs.List.{list_any}
 use Rattle.lti_outside.specs.declared.pairs.Pair.{Pair}

@@ -11,7 +11,7 @@ use Rattle.oauth_sign.specs.Signature.{IsSignature}
 use Rattle.oauth_header.specs.Header.{IsHeader, header_pairs}
 use Rattle.oauth_header.specs.Written.{header_text}
 use Rattle.http_wire.specs.Message.{RequestParts}
-use Rattle.oauth_request.specs.Checked.{Terms, is_form, form_type, parameters, IsWellSigned, Says}
+use Rattle.oauth_request.specs.Checked.{Terms, form_type, parameters, IsWellSigned, Says}
 use Rattle.oauth_request.specs.Protocol.{key_name, method_name, timestamp_name, nonce_name, signature_name, version_name, body_hash_name, name_of}
 use Rattle.oauth_request.specs.Secret.{secret_in}
 use Rattle.oauth_request.specs.declared.fields.Field.{Field}

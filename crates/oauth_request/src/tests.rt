@@ -1,8 +1,8 @@
-//! Signed requests, each fault once, and which of two faults is named. The signatures and the hash were made with Python's
-//! hmac and hashlib.
+//! Signed requests, each fault once, which of two faults is named, and what this end signs. The signatures and the hash
+//! were made with Python's hmac and hashlib.
 use super::*;
 use http_wire::Request;
-use lti_outside::{Bytes, Limits, NoMemory, Pair, Pairs, Tap, Text};
+use lti_outside::{Bytes, Limits, Pair, Pairs, Tap, Text};
 use oauth_sign::BodyHash;
 use oauth_text::{Host, Scheme, Url, form_text};
 use std::alloc::Global;
@@ -11,27 +11,22 @@ use std::test::Fail;
 
 const FORM: &str = "application/x-www-form-urlencoded";
 
-// The protocol's parameters of a form, without the signature.
-const UNSIGNED: &str =
-    "a=1&oauth_consumer_key=12345&oauth_signature_method=HMAC-SHA1&oauth_timestamp=1400000000&oauth_nonce=n1&oauth_version=1.0";
+const XML: &str = "application/xml";
 
-// The header of the body `<a/>`, without the signature.
-const HEADER: &str =
-    "OAuth realm=\"x\", oauth_body_hash=\"25qoZjLG8syZaEot0V0rZIKOdiI%3D\", oauth_consumer_key=\"12345\", oauth_signature_method=\"HMAC-SHA1\", oauth_timestamp=\"1400000000\", oauth_nonce=\"n1\", oauth_version=\"1.0\"";
-
-fn pairs(alloc: Global, list: &[(&str, &str)]) -> Result<Pairs, NoMemory> {
-    let mut made = Pairs::new(alloc);
-    for (name, value) in list {
-        made.push(Pair {
-            name: Text::new(alloc, *name)?,
-            value: Text::new(alloc, *value)?,
-        })?;
-    }
-    Ok(made)
+fn push(list: &mut Pairs, alloc: Global, name: &str, value: &str) -> Result<(), Fail> {
+    list.push(Pair {
+        name: Text::new(alloc, name)?,
+        value: Text::new(alloc, value)?,
+    })?;
+    Ok(())
 }
 
-fn keys(alloc: Global) -> Result<Keys, Fail> {
-    Ok(Keys::new(pairs(alloc, &[("other", "word"), ("12345", "secret")])?)?)
+fn keys(rt: &impl Abort, alloc: Global) -> Result<Keys, Fail> {
+    let mut list = Pairs::new(alloc);
+    push(&mut list, alloc, "other", "word")?;
+    push(&mut list, alloc, "12345", "secret")?;
+    assert_eq!(rt; list.len(), 2);
+    Ok(Keys::new(list)?)
 }
 
 // A request to https://tool.example/lti/launch.
@@ -42,14 +37,13 @@ fn request(
     authorization: &str,
     body: &[u8],
 ) -> Result<Request, Fail> {
-    let host = Host::read(alloc, "Tool.Example")?;
     let mut copy = Bytes::new(alloc);
     copy.push(body)?;
     Ok(Request {
         method: Text::new(alloc, "POST")?,
         path: Text::new(alloc, "/lti/launch")?,
         query: Text::new(alloc, query)?,
-        host,
+        host: Host::read(alloc, "Tool.Example")?,
         media: Text::new(alloc, media)?,
         encoded: false,
         authorization: Text::new(alloc, authorization)?,
@@ -69,19 +63,9 @@ fn checked(
     let mut limits = Limits::usual();
     limits.field = field;
     assert!(rt; limits.sound());
-    Ok(check(
-        alloc,
-        request,
-        &hash.finish(),
-        &keys(alloc)?,
-        Scheme::Https,
-        &limits,
-    ))
-}
-
-// The fault of a request, or none.
-fn fault_of(rt: &impl Abort, alloc: Global, request: &Request) -> Result<Option<AuthFault>, Fail> {
-    Ok(checked(rt, alloc, request, 255)?.err())
+    let keys = keys(rt, alloc)?;
+    let sum = hash.finish();
+    Ok(check(alloc, request, &sum, &keys, Scheme::Https, &limits))
 }
 
 // Each name and value, with `=` and LF.
@@ -97,12 +81,226 @@ fn shown(alloc: Global, pairs: &Pairs) -> Result<String, Fail> {
 }
 
 #[test]
-fn a_signed_form_says_whose_it_is(rt: HostRuntime) -> Result<(), Fail> {
+fn requests_without_and_with_one_fault(rt: HostRuntime) -> Result<(), Fail> {
     let alloc = rt.alloc();
-    let body = format!(in alloc;
-        "{UNSIGNED}&oauth_token=&oauth_signature=7x%2BHedphn7CGRmVbRWMS74KoKjo%3D"
-    )?;
-    let sent = request(alloc, "", FORM, "", body.as_bytes())?;
+    for (query, media, header, body, want) in [
+        (
+            "",
+            FORM,
+            "",
+            "a=1&oauth_consumer_key=12345&oauth_signature_method=HMAC-SHA1&oauth_timestamp=1400000000&oauth_nonce=n1&oauth_version=1.0&oauth_signature=UeItB3GozT2T2NU41cFJ0zdwiZg%3D",
+            None,
+        ),
+        (
+            "course=7",
+            FORM,
+            "",
+            "a=1&oauth_consumer_key=12345&oauth_signature_method=HMAC-SHA1&oauth_timestamp=1400000000&oauth_nonce=n1&oauth_version=1.0&oauth_signature=iU0BHVRPiXQ8hILAwVFgx%2BFJjFY%3D",
+            None,
+        ),
+        (
+            "course=8",
+            FORM,
+            "",
+            "a=1&oauth_consumer_key=12345&oauth_signature_method=HMAC-SHA1&oauth_timestamp=1400000000&oauth_nonce=n1&oauth_version=1.0&oauth_signature=iU0BHVRPiXQ8hILAwVFgx%2BFJjFY%3D",
+            Some(AuthFault::SignatureMismatch),
+        ),
+        (
+            "",
+            FORM,
+            "",
+            "a=1&oauth_consumer_key=12345&oauth_signature_method=HMAC-SHA1&oauth_timestamp=1400000000&oauth_nonce=n1&oauth_version=1.0&oauth_signature=UeItB3GozT2T2NU41cFJ0zdwiZg%3D&b=%FF",
+            Some(AuthFault::BadForm),
+        ),
+        (
+            "",
+            FORM,
+            "",
+            "a=1&oauth_consumer_key=12345&oauth_signature_method=HMAC-SHA1&oauth_timestamp=1400000000&oauth_nonce=n1&oauth_version=1.0&oauth_signature=UeItB3GozT2T2NU41cFJ0zdwiZg%3D&oauth_nonce=n2",
+            Some(AuthFault::Duplicate(Field::Nonce)),
+        ),
+        (
+            "",
+            FORM,
+            "",
+            "oauth_signature_method=HMAC-SHA1&oauth_timestamp=1&oauth_nonce=n&oauth_signature=UeItB3GozT2T2NU41cFJ0zdwiZg%3D",
+            Some(AuthFault::Missing(Field::ConsumerKey)),
+        ),
+        (
+            "",
+            FORM,
+            "",
+            "a=1&oauth_consumer_key=12345&oauth_signature_method=HMAC-SHA1&oauth_timestamp=1400000000&oauth_nonce=n1&oauth_version=1.0",
+            Some(AuthFault::Missing(Field::Signature)),
+        ),
+        (
+            "",
+            FORM,
+            "",
+            "oauth_consumer_key=12345&oauth_signature_method=PLAINTEXT&oauth_timestamp=1&oauth_nonce=n&oauth_signature=UeItB3GozT2T2NU41cFJ0zdwiZg%3D",
+            Some(AuthFault::UnsupportedMethod),
+        ),
+        (
+            "",
+            FORM,
+            "",
+            "oauth_consumer_key=12345&oauth_signature_method=HMAC-SHA1&oauth_timestamp=1&oauth_nonce=n&oauth_version=1.1&oauth_signature=UeItB3GozT2T2NU41cFJ0zdwiZg%3D",
+            Some(AuthFault::BadVersion),
+        ),
+        (
+            "",
+            FORM,
+            "",
+            "a=1&oauth_consumer_key=12345&oauth_signature_method=HMAC-SHA1&oauth_timestamp=1400000000&oauth_nonce=n1&oauth_version=1.0&oauth_token=t&oauth_signature=UeItB3GozT2T2NU41cFJ0zdwiZg%3D",
+            Some(AuthFault::TokenNotSupported),
+        ),
+        (
+            "",
+            FORM,
+            "",
+            "oauth_consumer_key=12345&oauth_signature_method=HMAC-SHA1&oauth_timestamp=0&oauth_nonce=n&oauth_signature=UeItB3GozT2T2NU41cFJ0zdwiZg%3D",
+            Some(AuthFault::BadTimestamp),
+        ),
+        (
+            "",
+            FORM,
+            "",
+            "oauth_consumer_key=12345&oauth_signature_method=HMAC-SHA1&oauth_timestamp=1&oauth_nonce=&oauth_signature=UeItB3GozT2T2NU41cFJ0zdwiZg%3D",
+            Some(AuthFault::BadNonce),
+        ),
+        (
+            "",
+            FORM,
+            "",
+            "oauth_consumer_key=0000000000000000000000000000000000000000000000000000000000000000000000000000000000000000000000000000000000000000000000000000000000000000000000000000000000000000000000000000000000000000000000000000000000000000000000000000000000000000000000000000000000000001&oauth_signature_method=HMAC-SHA1&oauth_timestamp=1&oauth_nonce=n&oauth_signature=UeItB3GozT2T2NU41cFJ0zdwiZg%3D",
+            Some(AuthFault::TooLong),
+        ),
+        (
+            "",
+            FORM,
+            "",
+            "oauth_consumer_key=1234&oauth_signature_method=HMAC-SHA1&oauth_timestamp=1&oauth_nonce=n&oauth_signature=UeItB3GozT2T2NU41cFJ0zdwiZg%3D",
+            Some(AuthFault::UnknownKey),
+        ),
+        (
+            "",
+            FORM,
+            "",
+            "a=1&oauth_consumer_key=12345&oauth_signature_method=HMAC-SHA1&oauth_timestamp=1400000000&oauth_nonce=n1&oauth_version=1.0&oauth_signature=UeItB3GozT2T2NU41cFJ0zdwiZg",
+            Some(AuthFault::SignatureMismatch),
+        ),
+        (
+            "",
+            FORM,
+            "",
+            "a=1&oauth_consumer_key=12345&oauth_signature_method=HMAC-SHA1&oauth_timestamp=1400000000&oauth_nonce=n1&oauth_version=1.0&oauth_signature=",
+            Some(AuthFault::SignatureMismatch),
+        ),
+        (
+            "",
+            XML,
+            "OAuth realm=\"x\", oauth_body_hash=\"25qoZjLG8syZaEot0V0rZIKOdiI%3D\", oauth_consumer_key=\"12345\", oauth_signature_method=\"HMAC-SHA1\", oauth_timestamp=\"1400000000\", oauth_nonce=\"n1\", oauth_version=\"1.0\", oauth_signature=\"TXXFW8SPFHHQP3gjLrbBUYAHTBU%3D\"",
+            "<a/>",
+            None,
+        ),
+        (
+            "",
+            XML,
+            "OAuth realm=\"x\", oauth_body_hash=\"25qoZjLG8syZaEot0V0rZIKOdiI%3D\", oauth_consumer_key=\"12345\", oauth_signature_method=\"HMAC-SHA1\", oauth_timestamp=\"1400000000\", oauth_nonce=\"n1\", oauth_version=\"1.0\", oauth_signature=\"TXXFW8SPFHHQP3gjLrbBUYAHTBU%3D\"",
+            "<b/>",
+            Some(AuthFault::BodyHashMismatch),
+        ),
+        (
+            "",
+            XML,
+            "OAuth a=\"1\", b=2",
+            "<a/>",
+            Some(AuthFault::BadAuthorization { at: 13 }),
+        ),
+        (
+            "",
+            XML,
+            "OAuth oauth_consumer_key=\"12345\", oauth_signature_method=\"HMAC-SHA1\", oauth_timestamp=\"1\", oauth_nonce=\"n\", oauth_signature=\"TXXFW8SPFHHQP3gjLrbBUYAHTBU%3D\"",
+            "<a/>",
+            Some(AuthFault::Missing(Field::BodyHash)),
+        ),
+        (
+            "",
+            XML,
+            "OAuth realm=\"x\", oauth_body_hash=\"25qoZjLG8syZaEot0V0rZIKOdiI%3D\", oauth_consumer_key=\"12345\", oauth_signature_method=\"HMAC-SHA1\", oauth_timestamp=\"1400000000\", oauth_nonce=\"n1\", oauth_version=\"1.0\", oauth_signature=\"x\"",
+            "<a/>",
+            Some(AuthFault::SignatureMismatch),
+        ),
+    ] {
+        let sent = request(alloc, query, media, header, body.as_bytes())?;
+        let fault = checked(&rt, alloc, &sent, 255)?.err();
+        assert_eq!(rt; fault, want, "at {body}");
+    }
+    Ok(())
+}
+
+#[test]
+fn the_first_of_two_faults_is_named(rt: HostRuntime) -> Result<(), Fail> {
+    let alloc = rt.alloc();
+    for (query, media, header, body, want) in [
+        (
+            "b=%FF",
+            FORM,
+            "OAuth a",
+            "",
+            Some(AuthFault::BadAuthorization { at: 6 }),
+        ),
+        (
+            "b=%FF",
+            FORM,
+            "",
+            "oauth_nonce=1&oauth_nonce=2",
+            Some(AuthFault::BadForm),
+        ),
+        (
+            "oauth_token=",
+            FORM,
+            "OAuth oauth_token=\"\", oauth_nonce=\"1\"",
+            "oauth_nonce=2",
+            Some(AuthFault::Duplicate(Field::Nonce)),
+        ),
+        (
+            "",
+            FORM,
+            "",
+            "oauth_signature_method=PLAINTEXT",
+            Some(AuthFault::Missing(Field::ConsumerKey)),
+        ),
+        (
+            "",
+            FORM,
+            "",
+            "oauth_consumer_key=1&oauth_signature_method=HMAC-SHA1&oauth_timestamp=&oauth_nonce=&oauth_signature=&oauth_version=2",
+            Some(AuthFault::BadVersion),
+        ),
+        (
+            "",
+            FORM,
+            "",
+            "oauth_consumer_key=1&oauth_signature_method=HMAC-SHA1&oauth_timestamp=-1&oauth_nonce=&oauth_signature=",
+            Some(AuthFault::BadTimestamp),
+        ),
+    ] {
+        let sent = request(alloc, query, media, header, body.as_bytes())?;
+        let fault = checked(&rt, alloc, &sent, 255)?.err();
+        assert_eq!(rt; fault, want, "at {body}");
+    }
+    Ok(())
+}
+
+#[test]
+fn what_a_signed_request_says(rt: HostRuntime) -> Result<(), Fail> {
+    let alloc = rt.alloc();
+    let form =
+        "a=1&oauth_consumer_key=12345&oauth_signature_method=HMAC-SHA1&oauth_timestamp=1400000000&oauth_nonce=n1&oauth_version=1.0&oauth_token=&oauth_signature=7x%2BHedphn7CGRmVbRWMS74KoKjo%3D";
+    let sent = request(alloc, "", FORM, "", form.as_bytes())?;
+    let short = checked(&rt, alloc, &sent, 4)?.err();
+    assert_eq!(rt; short, Some(AuthFault::TooLong));
     let signed = checked(&rt, alloc, &sent, 5)??;
     assert_eq!(rt; signed.key.get(), "12345");
     assert_eq!(rt; signed.timestamp, 1_400_000_000);
@@ -114,253 +312,40 @@ fn a_signed_form_says_whose_it_is(rt: HostRuntime) -> Result<(), Fail> {
     Ok(())
 }
 
-#[test]
-fn a_signed_body_says_whose_it_is(rt: HostRuntime) -> Result<(), Fail> {
-    let alloc = rt.alloc();
-    let header = format!(in alloc;
-        "{HEADER}, oauth_signature=\"VqI0tuIKQhL%2FgtSjoQI3drJoz%2Bo%3D\""
-    )?;
-    let sent = request(
-        alloc,
-        "course=7",
-        "application/xml",
-        header.as_str(),
-        b"<a/>",
-    )?;
-    let signed = checked(&rt, alloc, &sent, 255)??;
-    assert_eq!(rt; signed.key.get(), "12345");
-    assert_eq!(rt;
-        shown(alloc, &signed.pairs)?.as_str(),
-        "course=7\noauth_body_hash=25qoZjLG8syZaEot0V0rZIKOdiI=\noauth_consumer_key=12345\noauth_signature_method=HMAC-SHA1\noauth_timestamp=1400000000\noauth_nonce=n1\noauth_version=1.0\n"
-    );
-    Ok(())
-}
-
-#[test]
-fn a_changed_body_is_refused_and_the_right_one_is_not(rt: HostRuntime) -> Result<(), Fail> {
-    let alloc = rt.alloc();
-    let header = format!(in alloc; "{HEADER}, oauth_signature=\"TXXFW8SPFHHQP3gjLrbBUYAHTBU%3D\"")?;
-    let right = request(alloc, "", "application/xml", header.as_str(), b"<a/>")?;
-    let changed = request(alloc, "", "application/xml", header.as_str(), b"<b/>")?;
-    assert_eq!(rt;
-        fault_of(&rt, alloc, &changed)?,
-        Some(AuthFault::BodyHashMismatch)
-    );
-    assert_eq!(rt; fault_of(&rt, alloc, &right)?, None);
-    Ok(())
-}
-
-#[test]
-fn the_query_is_signed(rt: HostRuntime) -> Result<(), Fail> {
-    let alloc = rt.alloc();
-    let body = format!(in alloc; "{UNSIGNED}&oauth_signature=iU0BHVRPiXQ8hILAwVFgx%2BFJjFY%3D")?;
-    let right = request(alloc, "course=7", FORM, "", body.as_bytes())?;
-    let other = request(alloc, "course=8", FORM, "", body.as_bytes())?;
-    assert_eq!(rt; fault_of(&rt, alloc, &right)?, None);
-    assert_eq!(rt;
-        fault_of(&rt, alloc, &other)?,
-        Some(AuthFault::SignatureMismatch)
-    );
-    Ok(())
-}
-
-#[test]
-fn each_fault_of_a_form(rt: HostRuntime) -> Result<(), Fail> {
-    let alloc = rt.alloc();
-    let right = "oauth_signature=UeItB3GozT2T2NU41cFJ0zdwiZg%3D";
-    let rest = "oauth_signature_method=HMAC-SHA1&oauth_timestamp=1&oauth_nonce=n";
-    let texts = [
-        (format!(in alloc; "{UNSIGNED}&{right}")?, None),
-        (
-            format!(in alloc; "{UNSIGNED}&{right}&b=%FF")?,
-            Some(AuthFault::BadForm),
-        ),
-        (
-            format!(in alloc; "{UNSIGNED}&{right}&oauth_nonce=n2")?,
-            Some(AuthFault::Duplicate(Field::Nonce)),
-        ),
-        (
-            format!(in alloc; "{rest}&{right}")?,
-            Some(AuthFault::Missing(Field::ConsumerKey)),
-        ),
-        (
-            format!(in alloc; "{UNSIGNED}")?,
-            Some(AuthFault::Missing(Field::Signature)),
-        ),
-        (
-            format!(in alloc;
-                "oauth_consumer_key=12345&oauth_signature_method=PLAINTEXT&oauth_timestamp=1&oauth_nonce=n&{right}"
-            )?,
-            Some(AuthFault::UnsupportedMethod),
-        ),
-        (
-            format!(in alloc; "oauth_consumer_key=12345&{rest}&oauth_version=1.1&{right}")?,
-            Some(AuthFault::BadVersion),
-        ),
-        (
-            format!(in alloc; "{UNSIGNED}&oauth_token=t&{right}")?,
-            Some(AuthFault::TokenNotSupported),
-        ),
-        (
-            format!(in alloc;
-                "oauth_consumer_key=12345&oauth_signature_method=HMAC-SHA1&oauth_timestamp=0&oauth_nonce=n&{right}"
-            )?,
-            Some(AuthFault::BadTimestamp),
-        ),
-        (
-            format!(in alloc;
-                "oauth_consumer_key=12345&oauth_signature_method=HMAC-SHA1&oauth_timestamp=1&oauth_nonce=&{right}"
-            )?,
-            Some(AuthFault::BadNonce),
-        ),
-        (
-            format!(in alloc; "oauth_consumer_key={:0>256}&{rest}&{right}", 1)?,
-            Some(AuthFault::TooLong),
-        ),
-        (
-            format!(in alloc; "oauth_consumer_key=1234&{rest}&{right}")?,
-            Some(AuthFault::UnknownKey),
-        ),
-        (
-            format!(in alloc; "{UNSIGNED}&oauth_signature=UeItB3GozT2T2NU41cFJ0zdwiZg")?,
-            Some(AuthFault::SignatureMismatch),
-        ),
-        (
-            format!(in alloc; "{UNSIGNED}&oauth_signature=")?,
-            Some(AuthFault::SignatureMismatch),
-        ),
-    ];
-    for (body, want) in &texts {
-        let sent = request(alloc, "", FORM, "", body.as_bytes())?;
-        assert_eq!(rt; fault_of(&rt, alloc, &sent)?, *want, "at {body}");
-    }
-    Ok(())
-}
-
-#[test]
-fn each_fault_of_a_header(rt: HostRuntime) -> Result<(), Fail> {
-    let alloc = rt.alloc();
-    let signature = "oauth_signature=\"TXXFW8SPFHHQP3gjLrbBUYAHTBU%3D\"";
-    let hashless =
-        "OAuth oauth_consumer_key=\"12345\", oauth_signature_method=\"HMAC-SHA1\", oauth_timestamp=\"1\", oauth_nonce=\"n\"";
-    let texts = [
-        (
-            String::from_str(alloc, "OAuth a=\"1\", b=2")?,
-            AuthFault::BadAuthorization { at: 13 },
-        ),
-        (
-            format!(in alloc; "{hashless}, {signature}")?,
-            AuthFault::Missing(Field::BodyHash),
-        ),
-        (
-            format!(in alloc; "{hashless}, {signature}, oauth_body_hash=\"a\"")?,
-            AuthFault::BodyHashMismatch,
-        ),
-        (
-            format!(in alloc; "{HEADER}, oauth_signature=\"x\"")?,
-            AuthFault::SignatureMismatch,
-        ),
-    ];
-    for (header, want) in &texts {
-        let sent = request(alloc, "", "application/xml", header.as_str(), b"<a/>")?;
-        assert_eq!(rt; fault_of(&rt, alloc, &sent)?, Some(*want), "at {header}");
-    }
-    Ok(())
-}
-
-#[test]
-fn the_first_of_two_faults_is_named(rt: HostRuntime) -> Result<(), Fail> {
-    let alloc = rt.alloc();
-    let cases: [(&str, &str, &str, &str, AuthFault); 6] = [
-        (
-            "b=%FF",
-            FORM,
-            "OAuth a",
-            "",
-            AuthFault::BadAuthorization { at: 6 },
-        ),
-        (
-            "b=%FF",
-            FORM,
-            "",
-            "oauth_nonce=1&oauth_nonce=2",
-            AuthFault::BadForm,
-        ),
-        (
-            "oauth_token=",
-            FORM,
-            "OAuth oauth_token=\"\", oauth_nonce=\"1\"",
-            "oauth_nonce=2",
-            AuthFault::Duplicate(Field::Nonce),
-        ),
-        (
-            "",
-            FORM,
-            "",
-            "oauth_signature_method=PLAINTEXT",
-            AuthFault::Missing(Field::ConsumerKey),
-        ),
-        (
-            "",
-            FORM,
-            "",
-            "oauth_consumer_key=1&oauth_signature_method=HMAC-SHA1&oauth_timestamp=&oauth_nonce=&oauth_signature=&oauth_version=2",
-            AuthFault::BadVersion,
-        ),
-        (
-            "",
-            FORM,
-            "",
-            "oauth_consumer_key=1&oauth_signature_method=HMAC-SHA1&oauth_timestamp=-1&oauth_nonce=&oauth_signature=",
-            AuthFault::BadTimestamp,
-        ),
-    ];
-    for (query, media, header, body, want) in cases {
-        let sent = request(alloc, query, media, header, body.as_bytes())?;
-        assert_eq!(rt; fault_of(&rt, alloc, &sent)?, Some(want), "at {body}");
-    }
-    Ok(())
-}
-
-#[test]
-fn a_key_as_long_as_the_limit(rt: HostRuntime) -> Result<(), Fail> {
-    let alloc = rt.alloc();
-    let body = format!(in alloc; "{UNSIGNED}&oauth_signature=UeItB3GozT2T2NU41cFJ0zdwiZg%3D")?;
-    let sent = request(alloc, "", FORM, "", body.as_bytes())?;
-    assert!(rt; checked(&rt, alloc, &sent, 5)?.is_ok());
-    assert_eq!(rt;
-        checked(&rt, alloc, &sent, 4)?.err(),
-        Some(AuthFault::TooLong)
-    );
-    Ok(())
+// The fault of a list of two keys.
+fn fault_of_keys(
+    rt: &impl Abort,
+    alloc: Global,
+    one: &str,
+    other: &str,
+) -> Result<Option<KeysFault>, Fail> {
+    let mut list = Pairs::new(alloc);
+    push(&mut list, alloc, one, "")?;
+    push(&mut list, alloc, other, "")?;
+    assert_eq!(rt; list.len(), 2);
+    Ok(Keys::new(list).err())
 }
 
 #[test]
 fn the_first_bad_key_is_named(rt: HostRuntime) -> Result<(), Fail> {
     let alloc = rt.alloc();
-    let longest = format!(in alloc; "{:0>255}", 1)?;
-    let long = format!(in alloc; "{:0>256}", 1)?;
-    let cases: [(&[(&str, &str)], Option<KeysFault>); 5] = [
-        (&[], None),
-        (&[(longest.as_str(), ""), ("b", "")], None),
+    for (one, other, want) in [
         (
-            &[("a", ""), ("", ""), ("a", "")],
-            Some(KeysFault::Empty { at: 1 }),
+            "000000000000000000000000000000000000000000000000000000000000000000000000000000000000000000000000000000000000000000000000000000000000000000000000000000000000000000000000000000000000000000000000000000000000000000000000000000000000000000000000000000000000001",
+            "b",
+            None,
         ),
+        ("a", "", Some(KeysFault::Empty { at: 1 })),
         (
-            &[(long.as_str(), ""), ("", "")],
+            "0000000000000000000000000000000000000000000000000000000000000000000000000000000000000000000000000000000000000000000000000000000000000000000000000000000000000000000000000000000000000000000000000000000000000000000000000000000000000000000000000000000000000001",
+            "",
             Some(KeysFault::TooLong { at: 0 }),
         ),
-        (
-            &[("a", "1"), ("b", "1"), ("a", "2")],
-            Some(KeysFault::Repeated { at: 2 }),
-        ),
-    ];
-    for (list, want) in cases {
-        let made = Keys::new(pairs(alloc, list)?);
-        assert_eq!(rt; made.err(), want);
+        ("a", "a", Some(KeysFault::Repeated { at: 1 })),
+    ] {
+        assert_eq!(rt; fault_of_keys(&rt, alloc, one, other)?, want);
     }
-    let keys = keys(alloc)?;
+    let keys = keys(&rt, alloc)?;
     assert_eq!(rt; keys.secret("12345"), Some("secret"));
     assert_eq!(rt; keys.secret("1234"), None);
     Ok(())
@@ -391,52 +376,36 @@ fn statuses_and_names(rt: HostRuntime) -> Result<(), Fail> {
         assert_eq!(rt; field.name(), name);
     }
     one_answer();
+    signed_is_believed();
     Ok(())
-}
-
-const SIGNED_AT: &str = "HTTPS://Tool.Example:8443/lti/launch?course=7";
-
-// Posts a body to SIGNED_AT.
-fn posted(alloc: Global, media: &str, authorization: &str, body: &[u8]) -> Result<Request, Fail> {
-    let mut sent = request(alloc, "course=7", media, authorization, body)?;
-    sent.host = Host::read(alloc, "tool.example:8443")?;
-    Ok(sent)
 }
 
 #[test]
 fn a_form_is_signed_and_believed(rt: HostRuntime) -> Result<(), Fail> {
     let alloc = rt.alloc();
-    let url = Url::read(alloc, SIGNED_AT)?;
-    let fields = pairs(alloc, &[("a", "1 2")])?;
-    let signed = sign_form(
-        alloc,
-        &url,
-        &fields,
-        "12345",
-        "secret",
-        1_400_000_000,
-        "n 1",
-    )?;
+    let url = Url::read(alloc, "HTTPS://Tool.Example/lti/launch?course=7")?;
+    let none = Pairs::new(alloc);
+    let signed = sign_form(alloc, &url, &none, "12345", "secret", 1_400_000_000, "n 1")?;
     assert_eq!(rt;
         shown(alloc, &signed)?.as_str(),
-        "a=1 2\noauth_consumer_key=12345\noauth_signature_method=HMAC-SHA1\noauth_timestamp=1400000000\noauth_nonce=n 1\noauth_version=1.0\noauth_callback=about:blank\noauth_signature=KH3yRoIB2GwMrfQhoYMTwsvqbq0=\n"
+        "oauth_consumer_key=12345\noauth_signature_method=HMAC-SHA1\noauth_timestamp=1400000000\noauth_nonce=n 1\noauth_version=1.0\noauth_callback=about:blank\noauth_signature=fc2MpIscRGGDtcp67wQMUqEVGGw=\n"
     );
     let body = form_text(alloc, &signed)?;
-    let sent = posted(alloc, FORM, "", body.get())?;
-    assert_eq!(rt; fault_of(&rt, alloc, &sent)?, None);
+    let sent = request(alloc, "course=7", FORM, "", body.get())?;
+    assert!(rt; checked(&rt, alloc, &sent, 255)?.is_ok());
     Ok(())
 }
 
 #[test]
 fn a_body_is_signed_and_believed(rt: HostRuntime) -> Result<(), Fail> {
     let alloc = rt.alloc();
-    let url = Url::read(alloc, SIGNED_AT)?;
+    let url = Url::read(alloc, "https://tool.example/lti/launch?course=7")?;
     let mut body = Bytes::new(alloc);
     body.push(b"<a/>")?;
     let sent = sign_body(
         alloc,
         &url,
-        "application/xml",
+        XML,
         body,
         "12345",
         "secret",
@@ -445,17 +414,9 @@ fn a_body_is_signed_and_believed(rt: HostRuntime) -> Result<(), Fail> {
     )?;
     assert_eq!(rt;
         sent.authorization.get(),
-        "OAuth oauth_consumer_key=\"12345\", oauth_signature_method=\"HMAC-SHA1\", oauth_timestamp=\"1400000000\", oauth_nonce=\"n%201\", oauth_version=\"1.0\", oauth_body_hash=\"25qoZjLG8syZaEot0V0rZIKOdiI%3D\", oauth_signature=\"nob7wvx5x98gMqe0uoF6g2ad73Y%3D\""
+        "OAuth oauth_consumer_key=\"12345\", oauth_signature_method=\"HMAC-SHA1\", oauth_timestamp=\"1400000000\", oauth_nonce=\"n%201\", oauth_version=\"1.0\", oauth_body_hash=\"25qoZjLG8syZaEot0V0rZIKOdiI%3D\", oauth_signature=\"%2F2zOkjHeobGuXZ4IHKpYEB7h%2FGw%3D\""
     );
-    assert_eq!(rt; sent.method.get(), "POST");
-    assert_eq!(rt; sent.path.get(), "/lti/launch");
-    assert_eq!(rt; sent.query.get(), "course=7");
-    assert_eq!(rt; sent.host.name.get(), "tool.example");
-    assert_eq!(rt; sent.host.port, Some(8443));
-    assert_eq!(rt; sent.media.get(), "application/xml");
-    assert_eq!(rt; sent.body.get(), b"<a/>".as_slice());
     assert!(rt; sent.close);
-    assert_eq!(rt; fault_of(&rt, alloc, &sent)?, None);
-    signed_is_believed();
+    assert!(rt; checked(&rt, alloc, &sent, 255)?.is_ok());
     Ok(())
 }

@@ -1,10 +1,7 @@
-use Rattle.std.proofs.Common.{◌≡◌, List, [], ap, sym, ◌∙◌, subst, refl, true}
-use Rattle.oauth_sign.specs.BaseUri.{base_uri_of}
-use Rattle.oauth_sign.specs.Signature.{IsSignature}
+use Rattle.std.proofs.Common.{List, subst, refl}
 use Rattle.lti_outside.specs.declared.pairs.Pair.{Pair}
 use Rattle.http_wire.specs.Message.{parts_of, RequestParts}
-use Rattle.oauth_request.specs.Checked.{Terms, all_pairs, parameters, conditions_of, is_form, IsSignedBy}
-use Rattle.oauth_request.specs.Conditions.{IsFirstOf, first_fault}
+use Rattle.oauth_request.specs.Checked.{Terms}
 use Rattle.oauth_request.specs.Given.{AreCredentials}
 use Rattle.oauth_request.specs.Protocol.{signature_name}
 use Rattle.oauth_request.proofs.ResultLemmas.{IfErr_carried}

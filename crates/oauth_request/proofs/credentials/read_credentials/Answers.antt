@@ -1,4 +1,4 @@
-use Rattle.std.proofs.Common.{◌≡◌, false, subst, sym, ◌∙◌, refl}
+use Rattle.std.proofs.Common.{◌≡◌, false, subst, sym, ◌∙◌}
 use Rattle.sha1.specs.Sha1.{sha1}
 use Rattle.oauth_request.specs.Found.{AreFoundIn}
 use Rattle.oauth_request.proofs.ResultLemmas.{IfErr_carried}

@@ -1,4 +1,4 @@
-use Rattle.std.proofs.Common.{◌≡◌, ◌++◌, ◌∷◌, [], List, refl, sym, ap, ◌∙◌, subst}
+use Rattle.std.proofs.Common.{◌≡◌, ◌++◌, ◌∷◌, [], List, ap, ◌∙◌, subst}
 use Rattle.lti_outside.specs.declared.pairs.Pair.{Pair}
 use Rattle.oauth_text.specs.UrlView.{parts_of}
 use Rattle.oauth_request.specs.Protocol.{signature_name}

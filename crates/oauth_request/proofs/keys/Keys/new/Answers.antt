@@ -1,9 +1,7 @@
-use Rattle.std.proofs.Common.{◌≡◌, [], List, length, take, drop, refl, sym, ◌∙◌, subst, arith, None}
-use Rattle.std.proofs.lemmas.List.{take_all}
-use Rattle.std.proofs.Math.ListN.{drop_of_length-le}
+use Rattle.std.proofs.Common.{◌≡◌, List, take, refl, ◌∙◌, subst, None}
 use Rattle.lti_outside.specs.declared.pairs.Pair.{Pair}
 use Rattle.oauth_request.specs.Secret.{key_fault}
-use Rattle.oauth_request.proofs.KeyLemmas.{one_more, bad_here, short_more, AreShort-none}
+use Rattle.oauth_request.proofs.KeyLemmas.{one_more, short_more, AreShort-none}
 use Rattle.oauth_request.proofs.keys.Keys.new.Goals as goal
 
 pub loop-place-init : goal.loop-place-init
