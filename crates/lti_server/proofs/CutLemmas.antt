@@ -3,7 +3,6 @@ use Rattle.std.proofs.Common.{◌≡◌, ◌<◌, ◌≤◌, ◌+◌, ◌⊎◌,
 use Rattle.std.specs.Prelude.{⊤}
 use Rattle.std.proofs.lemmas.Grind.{common_steps}
 use Rattle.lti_outside.specs.Traffic.{Traffic, Fault, IsAtEnd, IsLeft}
-use Rattle.lti_outside.specs.Limits.{IsSound}
 use Rattle.lti_outside.specs.declared.limits.Limits.{Limits}
 use Rattle.lti_outside.specs.declared.pairs.Pair.{Pair}
 use Rattle.lti_outside.proofs.TrafficLemmas.{IsLeft-at_end}
@@ -21,8 +20,8 @@ use Rattle.oauth_request.specs.declared.checking.Signed.{Signed}
 use Rattle.oauth_request.proofs.OneAnswerLemmas as auth
 use Rattle.lti_machine.specs.declared.reply.Reply.{Reply}
 use Rattle.lti_server.specs.Before.{IsRefused, IsAsked, answer_to, fault_answer, render, wire_answer}
-use Rattle.lti_server.specs.Exchange.{Service, terms_of, Member, Exchange, Progress, IsExchange, IsAnswer, Runs, told_by, read_of, written_of, told_of, ends_with}
-use Rattle.lti_server.specs.Talk.{EndTells, Transcript, last_answer}
+use Rattle.lti_server.specs.Exchange.{Service, Member, Exchange, Progress, IsAnswer, Runs, told_by, read_of, written_of, told_of, ends_with}
+use Rattle.lti_server.specs.Talk.{EndTells, last_answer}
 use Rattle.lti_server.specs.Laws.{IsUndisturbed, replies_of, CutsDoNotMatter}
 use Rattle.lti_server.specs.declared.session_end.SessionEnd.{SessionEnd}
 use Rattle.lti_server.specs.declared.session_end.SessionEnd.TheVariants.{Ended, LimitReached, CutShort, ReadFault, WriteFault, Refused, NoMemory}

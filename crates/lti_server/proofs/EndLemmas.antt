@@ -1,5 +1,5 @@
 -- What a fault of the wire makes of a connection.
-use Rattle.std.proofs.Common.{◌≡◌, ◌⊎◌, ℕ, List, [], ◌++◌, Bool, true, false, inl, inr, refl, sym, ap, ◌∙◌, subst, append-nil, Option, Some, None, Err}
+use Rattle.std.proofs.Common.{◌≡◌, ℕ, List, [], ◌++◌, true, false, inl, inr, refl, sym, ap, ◌∙◌, subst, append-nil, Option, Some, None, Err}
 use Rattle.lti_outside.specs.Traffic.{Told, Traffic, Fault, no_fault, read_fault, write_fault, Tells, Counts, Moves, IsProperPrefix, IsAtEnd}
 use Rattle.lti_outside.specs.declared.limits.Limits.{Limits}
 use Rattle.lti_outside.specs.Faults.{Rose}
@@ -15,7 +15,7 @@ use Rattle.lti_server.specs.State.{SessionState}
 use Rattle.lti_server.specs.Refusal.{Refuses, refused_end}
 use Rattle.lti_server.specs.Talk.{EndTells, Spoken, ended, last_answer}
 use Rattle.lti_server.specs.declared.session_end.SessionEnd.{SessionEnd}
-use Rattle.lti_server.specs.declared.session_end.SessionEnd.TheVariants.{NoMemory, CutShort, Refused, WriteFault}
+use Rattle.lti_server.specs.declared.session_end.SessionEnd.TheVariants.{Refused, WriteFault}
 use Rattle.lti_server.proofs.TalkLemmas.{Talks-none}
 
 -- a fault stays where the input's end does

@@ -1,13 +1,12 @@
 -- One stretch of a session after another.
-use Rattle.std.proofs.Common.{◌≡◌, ◌<◌, ◌≤◌, ◌⊎◌, ◌+◌, ℕ, List, [], ◌∷◌, ◌++◌, length, Bool, true, false, inl, inr, refl, sym, ap, ◌∙◌, subst, append_assoc, append-nil, arith, Option, Some, None}
-use Rattle.std.specs.List.{flat_map}
+use Rattle.std.proofs.Common.{◌≡◌, ◌<◌, ◌≤◌, ◌⊎◌, ◌+◌, ℕ, List, [], ◌∷◌, ◌++◌, true, false, inl, inr, refl, sym, ap, ◌∙◌, subst, append_assoc, append-nil, arith, Option, Some, None}
 use Rattle.std.proofs.lemmas.Grind.{flat_map-append}
 use Rattle.lti_outside.specs.Traffic.{Traffic, Fault, no_fault, write_fault, Moves, IsProperPrefix, IsAtEnd}
 use Rattle.lti_outside.specs.declared.limits.Limits.{Limits}
 use Rattle.lti_outside.specs.declared.pairs.Pair.{Pair}
 use Rattle.oauth_text.specs.declared.url.Scheme.{Scheme}
 use Rattle.lti_outside.proofs.TrafficLemmas.{Moves-then}
-use Rattle.http_wire.specs.Message.{RequestParts, ResponseParts}
+use Rattle.http_wire.specs.Message.{ResponseParts}
 use Rattle.http_wire.specs.Spelling.{WireFaultOf}
 use Rattle.http_wire.specs.Response.{response_text}
 use Rattle.http_wire.specs.declared.fault.WireFault.{WireFault}
@@ -21,7 +20,7 @@ use Rattle.lti_server.specs.History.{Leads}
 use Rattle.lti_server.specs.Before.{render, wire_answer, no_memory_answer}
 use Rattle.lti_server.specs.State.{SessionState}
 use Rattle.lti_server.specs.Exchange.{Service, Member, Exchange, Progress, IsExchange, Runs, told_by, read_of, written_of, told_of, ends_with}
-use Rattle.lti_server.specs.Talk.{EndTells, Stage, answered, waiting, ended, Waits, IsIdle, StageTells, Talks, Spoken, Transcript, last_answer, answer_bytes, ends_then}
+use Rattle.lti_server.specs.Talk.{EndTells, Stage, answered, waiting, ended, StageTells, Talks, Spoken, Transcript, last_answer, answer_bytes, ends_then}
 
 abbrev progress : SessionState → Progress
 progress s = record { count = s.count; over = s.over }

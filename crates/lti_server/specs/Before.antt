@@ -1,7 +1,7 @@
 -- What is answered to a request before the machine is asked, and what is written for the machine's reply (this project's
 -- own; the statuses are those of RFC 9110, section 15).
-use Rattle.std.specs.Prelude.{◌≡◌, ◌⊎◌, ℕ, Bool, not, ◌||◌, List, [], ◌∷◌, ◌++◌, codes, decimal, bytes_eq, if◌then◌else◌, Option, None, Some}
-use Rattle.http_wire.specs.Message.{RequestParts, ResponseParts, response_parts_of}
+use Rattle.std.specs.Prelude.{◌≡◌, ◌⊎◌, ℕ, not, ◌||◌, List, [], ◌∷◌, ◌++◌, codes, decimal, bytes_eq, if◌then◌else◌, Option, None, Some}
+use Rattle.http_wire.specs.Message.{RequestParts, ResponseParts}
 use Rattle.http_wire.specs.declared.message.Media.TheVariants.{Plain}
 use Rattle.http_wire.specs.declared.fault.WireFault.{WireFault}
 use Rattle.http_wire.specs.declared.fault.WireFault.TheVariants as wire

@@ -1,5 +1,5 @@
 -- What the program says of a request before the machine is asked.
-use Rattle.std.specs.Prelude.{◌≡◌, ◌≤◌}
+use Rattle.std.specs.Prelude.{◌≤◌}
 use Rattle.http_wire.specs.Message.{RequestParts, response_parts_of}
 use Rattle.http_wire.specs.Response.{HasReason}
 use Rattle.oauth_request.specs.Checked.{Terms}

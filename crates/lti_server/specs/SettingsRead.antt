@@ -1,5 +1,5 @@
 -- What reading the settings from a source took, by how it ended (this project's own).
-use Rattle.std.specs.Prelude.{◌≡◌, ◌<◌, ◌≤◌, ◌⊎◌, ℕ, List, [], length, Result, Ok, Err}
+use Rattle.std.specs.Prelude.{◌<◌, ◌≤◌, ◌⊎◌, ℕ, List, [], length, Result, Ok, Err}
 use Rattle.lti_outside.specs.Traffic.{Traffic, Moves, no_fault, read_fault, IsAtEnd}
 use Rattle.lti_server.specs.Settings.{SettingsParts, IsSettings}
 use Rattle.lti_server.specs.SettingsView.{settings_parts}

@@ -1,11 +1,10 @@
-use Rattle.std.proofs.Common.{◌≡◌, ℕ, ◌++◌, ◌∷◌, List, [], refl, sym, ap, ◌∙◌, subst, append-nil, arith}
+use Rattle.std.proofs.Common.{◌++◌, ◌∷◌, List, [], refl, sym, ap, ◌∙◌, subst, append-nil, arith}
 use Rattle.lti_outside.specs.Traffic.{Fault, Moves, no_fault, write_fault}
 use Rattle.lti_outside.proofs.TrafficLemmas.{Moves-same, Moves-gives}
-use Rattle.lti_machine.specs.declared.entry.Entry.{Entry}
 use Rattle.lti_server.specs.State.{SessionState}
 use Rattle.lti_server.specs.Exchange.{Member}
 use Rattle.lti_server.specs.History.{Leads}
-use Rattle.lti_server.specs.Talk.{Talks, answered, waiting, ended, answer_bytes}
+use Rattle.lti_server.specs.Talk.{waiting, ended, answer_bytes}
 use Rattle.lti_server.proofs.TalkLemmas.{Talks-none, Spoken-then, Spoken-caller, Talks-whole, Runs-count, told_ok, told_cut, Leads-push}
 use Rattle.lti_server.proofs.sessions.session.Goals as goal
 

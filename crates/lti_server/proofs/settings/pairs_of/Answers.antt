@@ -1,11 +1,10 @@
-use Rattle.std.proofs.Common.{◌≡◌, ℕ, ◌+◌, List, [], ◌∷◌, sym, ◌∙◌, ap, map, drop, ◌++◌, Some, None, Option}
+use Rattle.std.proofs.Common.{◌+◌, List, ◌∷◌, sym, ◌∙◌, ap, map, drop, ◌++◌, Option}
 use Rattle.std.specs.Option.{option_map}
 use Rattle.std.proofs.lemmas.List.{drop_more}
 use Rattle.std.proofs.Math.ListN.{drop_of_length-le}
 use Rattle.serde_json.specs.View.{view}
 use Rattle.serde_json.specs.declared.value.Value.{Value}
 use Rattle.lti_outside.specs.declared.pairs.Pair.{Pair}
-use Rattle.lti_server.specs.Settings.{pair_in}
 use Rattle.lti_server.proofs.SettingsLemmas.{pairs_of, pairs-more, pairs-none, pairs-end, pairs-start}
 use Rattle.lti_server.proofs.settings.pairs_of.Goals as goal
 

@@ -1,4 +1,4 @@
-use Rattle.std.proofs.Common.{◌++◌, length, take, length-append, length-take-le, arith}
+use Rattle.std.proofs.Common.{◌++◌, take, length-append, length-take-le, arith}
 use Rattle.std.proofs.lemmas.Result.{err_from_is_err_and}
 use Rattle.lti_outside.proofs.TrafficLemmas.{Moves-takes}
 use Rattle.lti_server.proofs.settings_source.take_all.Goals as goal

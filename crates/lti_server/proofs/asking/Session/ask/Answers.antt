@@ -1,4 +1,4 @@
-use Rattle.std.proofs.Common.{[], refl, ◌∙◌, append-nil, arith}
+use Rattle.std.proofs.Common.{[], refl, ◌∙◌, append-nil}
 use Rattle.lti_outside.specs.Traffic.{no_fault}
 use Rattle.lti_outside.proofs.TrafficLemmas.{Moves-same}
 use Rattle.lti_server.specs.Talk.{answered, waiting, ended}

@@ -1,4 +1,4 @@
-use Rattle.std.proofs.Common.{◌≡◌, ℕ, ◌++◌, List, [], inl, inr, refl, sym, ap, ◌∙◌, subst, append-nil, Bool, Some, None, Err, arith}
+use Rattle.std.proofs.Common.{[], inl, refl, sym}
 use Rattle.lti_outside.specs.Traffic.{no_fault}
 use Rattle.lti_outside.proofs.TrafficLemmas.{Moves-same, Moves-gives}
 use Rattle.lti_server.proofs.TalkLemmas.{Talks-none, Talks-read}

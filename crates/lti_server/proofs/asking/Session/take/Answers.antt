@@ -1,4 +1,4 @@
-use Rattle.std.proofs.Common.{◌≡◌, ℕ, ◌<◌, ◌++◌, List, [], inl, inr, refl, sym, ap, ◌∙◌, subst, append-nil, Bool, Some, None, arith}
+use Rattle.std.proofs.Common.{ℕ, ◌<◌, ◌++◌, [], inl, refl, sym, ap, ◌∙◌, subst, append-nil, Bool, Some, None}
 use Rattle.lti_outside.specs.Traffic.{no_fault, write_fault}
 use Rattle.lti_outside.proofs.TrafficLemmas.{Moves-same}
 use Rattle.http_wire.specs.Message.{parts_of, response_parts_of}
