@@ -345,7 +345,8 @@ fn settings_with_and_without_a_reading(rt: HostRuntime) -> Result<(), Fail> {
         let status = answered(&rt, alloc, &mut settings, &mut ends, &usual)?;
         assert_eq!(rt; status, want, "at {text}");
     }
-    let mut over = source(alloc, &[b' '; 1_048_577], 65_536, &[])?;
+    let spaces = vec![in alloc; b' '; 1_048_577]?;
+    let mut over = source(alloc, &spaces, 65_536, &[])?;
     let mut ends = link(alloc, b"", 1, &[], &[])?;
     assert_eq!(rt; answered(&rt, alloc, &mut over, &mut ends, &usual)?, 3);
     Ok(())
