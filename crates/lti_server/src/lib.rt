@@ -3,9 +3,12 @@
 //! `run` does what the words of the command line ask and answers the status. Of each command its contract
 //! says which bytes were read and written, by what the status says, however the input was cut into pieces.
 //!
-//! - `command`: the words; `check`: the command over a link; `answered`: the lines in whatever pieces;
-//! - `checker`: which kind of request a form is; `protocol`: its protocol parameters; `verdict`: what is
-//!   written; `stop`: why a command ended before its work was done.
+//! - `command`: the words; `stop`: why a command ended before its work was done;
+//! - `check`: the command over a link; `answered`: the lines in whatever pieces; `checker`: which kind of request a line is;
+//!   `verdict`: what is written;
+//! - `answering`: the command `answer`; `settings`, `settings_source`: what it is served with; `sessions`, `asking`: a whole
+//!   connection, and one call of it; `before`: what is said of a request before the machine is asked; `rendering`: the answer
+//!   to a reply; `refusing`: the answer to bytes that spell no request; `laws`: how bytes are cut doesn't matter.
 #![tactic(auto)]
 
 #[cfg(test)]
