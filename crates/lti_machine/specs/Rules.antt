@@ -4,10 +4,10 @@ use Rattle.std.specs.Prelude.{◌≡◌, ℕ, ◌⊎◌, max, Bool, true, false,
 use Rattle.lti_machine.specs.Nonces.{verdict, stamp_of_call}
 use Rattle.lti_machine.specs.declared.call.Call.{Call}
 use Rattle.lti_machine.specs.declared.call.Action.{Action}
-use Rattle.lti_machine.specs.declared.call.Action.TheVariants.{Note}
+use Rattle.lti_machine.specs.declared.call.Action.TheVariants as action
 use Rattle.lti_machine.specs.declared.entry.Entry.{Entry}
 use Rattle.lti_machine.specs.declared.entry.Effect.{Effect}
-use Rattle.lti_machine.specs.declared.entry.Effect.TheVariants.{Nothing}
+use Rattle.lti_machine.specs.declared.entry.Effect.TheVariants as effect
 use Rattle.lti_machine.specs.declared.reply.Reply.{Reply}
 use Rattle.lti_machine.specs.declared.reply.Reply.TheVariants as reply
 use Rattle.lti_machine.specs.declared.verdict.Verdict.{Verdict}
@@ -28,7 +28,8 @@ verdict_of entries call window = verdict entries call.key (stamp_of_call call) (
 
 -- the reply to what is asked, where the nonce is new
 abbrev pub result_of : Action → Reply
-result_of Note = reply.Noted
+result_of action.Note = reply.Noted
+result_of (action.Launch link user sourced_id service) = reply.Launched
 
 -- the reply by the verdict on the nonce: the action's own where it is new
 abbrev pub reply_by : Verdict → ℕ → Reply → Reply
@@ -43,6 +44,7 @@ decide entries call window = reply_by (verdict_of entries call window) (now_of e
 
 abbrev pub is_acceptance : Reply → Bool
 is_acceptance reply.Noted = true
+is_acceptance reply.Launched = true
 is_acceptance (reply.Outside now) = false
 is_acceptance reply.Used = false
 is_acceptance (reply.WindowFull live) = false
@@ -54,7 +56,8 @@ Answers decided given = (given ≡ decided) ⊎ ((is_acceptance decided ≡ true
 
 -- what an accepted call changes besides its nonce
 abbrev pub effect_of : Action → Effect
-effect_of Note = Nothing
+effect_of action.Note = effect.Nothing
+effect_of (action.Launch link user sourced_id service) = effect.Launch link user sourced_id service
 
 -- the entry of an accepted call
 abbrev pub entry_of : Call → ℕ → Entry

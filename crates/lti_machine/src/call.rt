@@ -13,6 +13,19 @@ pub const GREATEST_MOMENT: u64 = 999_999_999_999_999;
 pub enum Action {
     /// Nothing. The call leaves only its nonce behind.
     Note,
+    /// To note that a user started the tool from a resource link (LTI 1.1.1, section 3).
+    Launch {
+        /// The link, as `resource_link_id` names it.
+        link: Text,
+        /// The user, as `user_id` names it; empty where the launch names none.
+        user: Text,
+        /// Where a grade of this user and link goes (`lis_result_sourcedid`, section 6); empty where the
+        /// launch names no place.
+        sourced_id: Text,
+        /// The address of the service that takes grades (`lis_outcome_service_url`, section 6); empty where
+        /// the launch names none.
+        service: Text,
+    },
 }
 
 /// A call whose signature was found good.

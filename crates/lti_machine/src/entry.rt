@@ -6,6 +6,13 @@ use lti_outside::Text;
 pub enum Effect {
     /// Nothing.
     Nothing,
+    /// A user started the tool from a resource link. The texts are those of `Action::Launch`.
+    Launch {
+        link: Text,
+        user: Text,
+        sourced_id: Text,
+        service: Text,
+    },
 }
 
 /// What is kept of an accepted call.

@@ -5,6 +5,8 @@
 pub enum Reply {
     /// Accepted: the nonce is used up, and nothing else is changed.
     Noted,
+    /// Accepted: the nonce is used up, and the launch is noted.
+    Launched,
     /// The timestamp is more than 5400 seconds before or after the moment that stands. `now` is that
     /// moment: the call's own, or the greatest that was accepted. One of the two clocks is wrong, or the
     /// call is old. The 5400 seconds are this project's own.

@@ -1,6 +1,6 @@
 // The plain machine, with a list.
 ghost use Rattle.std.specs.Prelude.{◌≡◌, []};
-ghost use Rattle.lti_machine.specs.Rules.{decide, after, Answers};
+ghost use Rattle.lti_machine.specs.Rules.{decide, after, Answers, effect_of, result_of};
 ghost use Rattle.lti_machine.specs.Sound.{IsSound};
 
 use crate::call::{Action, Call};
@@ -39,6 +39,30 @@ impl Model for Solo {
     ghost invariant = { λ s. IsHeld s.entries.items (get nat_eq s.places) s.highest };
 }
 
+// What an action changes, and the reply to it.
+fn perform(action: Action) -> (Effect, Reply)
+    ensures effect { result.0 ≡ effect_of action }
+    ensures reply { result.1 ≡ result_of action }
+{
+    match action {
+        Action::Note => (Effect::Nothing, Reply::Noted),
+        Action::Launch {
+            link,
+            user,
+            sourced_id,
+            service,
+        } => (
+            Effect::Launch {
+                link,
+                user,
+                sourced_id,
+                service,
+            },
+            Reply::Launched,
+        ),
+    }
+}
+
 impl Solo {
     /// The machine that has accepted nothing, which takes no memory.
     pub fn new(alloc: Global) -> Solo
@@ -67,9 +91,7 @@ impl Solo {
             Verdict::Used => return Reply::Used,
             Verdict::WindowFull { live } => return Reply::WindowFull { live },
         }
-        let (effect, reply) = match call.action {
-            Action::Note => (Effect::Nothing, Reply::Noted),
-        };
+        let (effect, reply) = perform(call.action);
         let entry = Entry {
             moment: now,
             key: call.key,

@@ -110,6 +110,25 @@ fn a_nonce_is_used_with_its_key_and_its_timestamp(rt: HostRuntime) -> Result<(),
 }
 
 #[test]
+fn a_launch_is_accepted_once(rt: HostRuntime) -> Result<(), Fail> {
+    let alloc = rt.alloc();
+    let mut solo = Solo::new(alloc);
+    for wanted in [Reply::Launched, Reply::Used] {
+        let call = Call {
+            action: Action::Launch {
+                link: Text::new(alloc, "1")?,
+                user: Text::new(alloc, "2")?,
+                sourced_id: Text::new(alloc, "3124567")?,
+                service: Text::new(alloc, "https://lms.example/lti/outcomes")?,
+            },
+            ..note(alloc, 1_400_000_000, "12345", 1_400_000_000, "n")?
+        };
+        assert_eq!(rt; reply(&mut solo, call, 100_000)?, wanted);
+    }
+    Ok(())
+}
+
+#[test]
 fn a_full_window_empties_by_whole_minutes(rt: HostRuntime) -> Result<(), Fail> {
     let alloc = rt.alloc();
     let mut solo = Solo::new(alloc);
