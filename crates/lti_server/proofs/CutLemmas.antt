@@ -19,7 +19,9 @@ use Rattle.oauth_request.specs.Checked.{Terms}
 use Rattle.oauth_request.specs.declared.checking.Signed.{Signed}
 use Rattle.oauth_request.proofs.OneAnswerLemmas as auth
 use Rattle.lti_machine.specs.declared.reply.Reply.{Reply}
-use Rattle.lti_server.specs.Before.{IsRefused, IsAsked, answer_to, fault_answer, render, wire_answer}
+use Rattle.lti_provider.specs.Answers.{answer_to, auth_answer, launch_answer, render, wire_answer}
+use Rattle.lti_provider.specs.Before.{IsRefused, IsAsked}
+use Rattle.lti_machine.specs.declared.call.Action.{Action}
 use Rattle.lti_server.specs.Exchange.{Service, Member, Exchange, Progress, IsAnswer, Runs, told_by, read_of, written_of, told_of, ends_with}
 use Rattle.lti_server.specs.Talk.{EndTells, last_answer}
 use Rattle.lti_server.specs.Laws.{IsUndisturbed, replies_of, CutsDoNotMatter}
@@ -167,25 +169,22 @@ not_both o x one other = let e = sym one ∙ other in cc
 
 -- a refusal has one answer
 refused_unique : (terms : Terms) (q : RequestParts) (a b : ResponseParts) → IsRefused terms q a → IsRefused terms q b → a ≡ b
-refused_unique terms q a b one other =
-    elim one as (λ _. a ≡ b) [
-      | inl x ↦ elim other as (λ _. a ≡ b) [
-        | inl y ↦ x.2 ∙ ap (λ r. answer_to q r) (same_some _ x.0 y.0 x.1 y.1) ∙ sym y.2
-        | inr y ↦ absurd (not_both _ x.0 x.1 y.0)
-      ]
-      | inr x ↦ elim other as (λ _. a ≡ b) [
-        | inl y ↦ absurd (not_both _ y.0 y.1 x.0)
-        | inr y ↦ x.4 ∙ ap fault_answer ((auth.one_answer terms q).one x.1 y.1 x.3 y.3 x.2 y.2) ∙ sym y.4
-      ]
-    ]
+refused_unique terms q a b (inl (inl x)) (inl (inl y)) = x.answer_is ∙ ap (λ r. answer_to q r) (same_some _ x.refusal y.refusal x.refused y.refused) ∙ sym y.answer_is
+refused_unique terms q a b (inl (inl x)) (inl (inr y)) = absurd (not_both _ x.refusal x.refused y.routed)
+refused_unique terms q a b (inl (inl x)) (inr y) = absurd (not_both _ x.refusal x.refused y.routed)
+refused_unique terms q a b (inl (inr x)) (inl (inl y)) = absurd (not_both _ y.refusal y.refused x.routed)
+refused_unique terms q a b (inr x) (inl (inl y)) = absurd (not_both _ y.refusal y.refused x.routed)
+refused_unique terms q a b (inl (inr x)) (inl (inr y)) =
+    x.answer_is ∙ ap auth_answer ((auth.one_answer terms q).one x.fault y.fault x.is_fault y.is_fault x.known y.known) ∙ sym y.answer_is
+refused_unique terms q a b (inl (inr x)) (inr y) = absurd (x.known ((auth.one_answer terms q).none x.fault y.well_signed x.is_fault))
+refused_unique terms q a b (inr x) (inl (inr y)) = absurd (y.known ((auth.one_answer terms q).none y.fault x.well_signed y.is_fault))
+refused_unique terms q a b (inr x) (inr y) = x.answer_is ∙ ap launch_answer (same_some _ x.fault y.fault x.is_fault y.is_fault) ∙ sym y.answer_is
 
 -- no request is refused and asked
-refused_not_asked : (terms : Terms) (q : RequestParts) (a : ResponseParts) (signed : Signed) → IsRefused terms q a → IsAsked terms q signed → ⊥
-refused_not_asked terms q a signed one asked =
-    elim one [
-      | inl x ↦ not_both _ x.0 x.1 asked.routed
-      | inr x ↦ x.2 ((auth.one_answer terms q).none x.1 asked.well_signed x.3)
-    ]
+refused_not_asked : (terms : Terms) (q : RequestParts) (a : ResponseParts) (signed : Signed) (action : Action) → IsRefused terms q a → IsAsked terms q signed action → ⊥
+refused_not_asked terms q a signed action (inl (inl x)) asked = not_both _ x.refusal x.refused asked.routed
+refused_not_asked terms q a signed action (inl (inr x)) asked = x.known ((auth.one_answer terms q).none x.fault asked.well_signed x.is_fault)
+refused_not_asked terms q a signed action (inr x) asked = not_both _ x.fault x.is_fault asked.call.faultless
 
 abbrev first_reply : List Reply → Reply → Reply
 first_reply [] other = other
@@ -208,8 +207,8 @@ module _ (limits : Limits) (keys : List Pair) (scheme : Scheme) (n m : ℕ) (c d
     one.3 ∙ ap render (ap (λ rs. first_reply rs a.reply) same) ∙ sym other.3,
     ap later_replies same,
   )
-  one_answer q r r' ms ms' None (Some b) one other same = absurd (refused_not_asked _ q r other.0 one other.1)
-  one_answer q r r' ms ms' (Some a) None one other same = absurd (refused_not_asked _ q r' one.0 other one.1)
+  one_answer q r r' ms ms' None (Some b) one other same = absurd (refused_not_asked _ q r other.0 _ one other.1)
+  one_answer q r r' ms ms' (Some a) None one other same = absurd (refused_not_asked _ q r' one.0 _ other one.1)
 
   module _ (s s' : Progress) (x x' : List ℕ) (end end' : SessionEnd) (whole : Whole limits s x end) (whole' : Whole limits s' x' end') where
     same_run : (es fs : List Exchange) (p : Progress) → Runs (service limits keys scheme n c) p es s → Runs (service limits keys scheme m d) p fs s'

@@ -9,7 +9,7 @@ use Rattle.http_wire.specs.Spelling.{WireFaultOf, FaultTells, fault_of}
 use Rattle.http_wire.specs.declared.message.Request.{Request}
 use Rattle.http_wire.specs.declared.fault.WireFault.{WireFault}
 use Rattle.http_wire.specs.declared.fault.WireFault.TheVariants as wire
-use Rattle.lti_server.specs.Before.{wire_answer, no_memory_answer}
+use Rattle.lti_provider.specs.Answers.{wire_answer, no_memory_answer}
 use Rattle.lti_server.specs.Exchange.{Service, Progress}
 use Rattle.lti_server.specs.State.{SessionState}
 use Rattle.lti_server.specs.Refusal.{Refuses, refused_end}

@@ -4,13 +4,14 @@ use Rattle.http_wire.specs.Message.{ResponseParts}
 use Rattle.http_wire.specs.Response.{response_text}
 use Rattle.http_wire.specs.declared.message.Media.TheVariants.{Plain}
 use Rattle.lti_machine.specs.declared.reply.Reply.{Reply}
-use Rattle.lti_machine.specs.declared.reply.Reply.TheVariants.{Noted, Outside, Used, WindowFull, NoMemory}
-use Rattle.lti_server.specs.Before.{render}
+use Rattle.lti_machine.specs.declared.reply.Reply.TheVariants.{Noted, Launched, Outside, Used, WindowFull, NoMemory}
+use Rattle.lti_provider.specs.Answers.{render}
 use Rattle.lti_server.specs.Talk.{answer_bytes}
 
 -- the answer to a reply is plain text
 plain_render : (reply : Reply) → record { status = (render reply).status; media = Plain; body = (render reply).body } ≡ render reply
 plain_render Noted = refl
+plain_render Launched = refl
 plain_render (Outside now) = refl
 plain_render Used = refl
 plain_render (WindowFull live) = refl

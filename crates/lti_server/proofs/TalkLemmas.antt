@@ -17,7 +17,7 @@ use Rattle.lti_server.specs.declared.session_end.SessionEnd.TheVariants.{Ended, 
 use Rattle.lti_machine.specs.Rules.{decide, after, Answers}
 use Rattle.lti_machine.specs.declared.entry.Entry.{Entry}
 use Rattle.lti_server.specs.History.{Leads}
-use Rattle.lti_server.specs.Before.{render, wire_answer, no_memory_answer}
+use Rattle.lti_provider.specs.Answers.{render, wire_answer, no_memory_answer}
 use Rattle.lti_server.specs.State.{SessionState}
 use Rattle.lti_server.specs.Exchange.{Service, Member, Exchange, Progress, IsExchange, Runs, told_by, read_of, written_of, told_of, ends_with}
 use Rattle.lti_server.specs.Talk.{EndTells, Stage, answered, waiting, ended, StageTells, Talks, Spoken, Transcript, last_answer, answer_bytes, ends_then}

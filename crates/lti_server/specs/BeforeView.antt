@@ -5,7 +5,7 @@ use Rattle.http_wire.specs.Response.{HasReason}
 use Rattle.oauth_request.specs.Checked.{Terms}
 use Rattle.oauth_request.specs.declared.checking.Signed.{Signed}
 use Rattle.lti_machine.specs.Sound.{IsShort, greatest_moment}
-use Rattle.lti_server.specs.Before.{IsRefused, IsAsked}
+use Rattle.lti_provider.specs.Before.{IsRefused, IsAsked}
 use Rattle.lti_server.specs.declared.before.Before.{Before}
 use Rattle.lti_server.specs.declared.before.Before.TheVariants.{Refused, Asked}
 
@@ -17,4 +17,4 @@ pub record IsTakeable (signed : Signed) : Type 0 where
 
 abbrev pub IsBefore : Terms → RequestParts → Before → Type 0
 IsBefore terms q (Refused response) = IsRefused terms q (response_parts_of response) × HasReason response.status
-IsBefore terms q (Asked signed) = IsAsked terms q signed × IsTakeable signed
+IsBefore terms q (Asked signed action) = IsAsked terms q signed action × IsTakeable signed

@@ -11,9 +11,9 @@ use Rattle.http_wire.specs.Response.{response_text}
 use Rattle.oauth_request.specs.Checked as checked
 use Rattle.oauth_request.specs.declared.checking.Signed.{Signed}
 use Rattle.lti_machine.specs.declared.call.Call.{Call}
-use Rattle.lti_machine.specs.declared.call.Action.TheVariants.{Note}
 use Rattle.lti_machine.specs.declared.reply.Reply.{Reply}
-use Rattle.lti_server.specs.Before.{IsRefused, IsAsked, render}
+use Rattle.lti_provider.specs.Answers.{render}
+use Rattle.lti_provider.specs.Before.{IsRefused, IsAsked}
 
 -- what a connection is served under: the limits, the number of its caller, the keys with their secrets, the scheme by
 -- which this end is reached, and the moment that the clock gives, where it tells one
@@ -42,20 +42,19 @@ pub record Exchange : Type 0 where
   pub answer : ResponseParts
   pub ends : Bool
 
--- the call that a well signed request makes, at a moment of the clock
+-- the call is made for what a well signed request says, at a moment of the clock
 pub record IsCallOf (service : Service) (signed : Signed) (call : Call) : Type 0 where
   pub caller : call.caller ≡ service.caller
   pub moment : IsTold service.clock call.moment
   pub key : call.key ≡ signed.key
   pub timestamp : call.timestamp ≡ signed.timestamp
   pub nonce : call.nonce ≡ signed.nonce
-  pub action : call.action ≡ Note
 
 -- the answer is given before the machine is asked, or renders the reply to the request's call
 abbrev pub IsAnswer : Service → RequestParts → Option Member → ResponseParts → Type 0
 IsAnswer service q None answer = IsRefused (terms_of service) q answer
 IsAnswer service q (Some member) answer =
-    (signed : Signed) × IsAsked (terms_of service) q signed × IsCallOf service signed member.call × (answer ≡ render member.reply)
+    (signed : Signed) × IsAsked (terms_of service) q signed member.call.action × IsCallOf service signed member.call × (answer ≡ render member.reply)
 
 -- the connection ends with the answer to this request, where `count` came before it
 abbrev pub ends_with : Limits → ℕ → RequestParts → Bool

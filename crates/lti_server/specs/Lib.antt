@@ -7,7 +7,6 @@ pub mod Verdicts
 pub mod SoFar
 pub mod Status
 pub mod Ending
-pub mod Before
 pub mod State
 pub mod Exchange
 pub mod BeforeView

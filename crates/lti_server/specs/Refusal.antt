@@ -5,7 +5,7 @@ use Rattle.http_wire.specs.Message.{ResponseParts}
 use Rattle.http_wire.specs.Response.{response_text}
 use Rattle.http_wire.specs.declared.fault.WireFault.{WireFault}
 use Rattle.http_wire.specs.declared.fault.WireFault.TheVariants as wire
-use Rattle.lti_server.specs.Before.{wire_answer}
+use Rattle.lti_provider.specs.Answers.{wire_answer}
 use Rattle.lti_server.specs.declared.session_end.SessionEnd.{SessionEnd}
 use Rattle.lti_server.specs.declared.session_end.SessionEnd.TheVariants.{CutShort, ReadFault, WriteFault, Refused, NoMemory}
 

@@ -11,7 +11,8 @@ use Rattle.oauth_request.specs.declared.checking.Signed.{Signed}
 use Rattle.lti_machine.specs.Sound.{IsSound}
 use Rattle.lti_machine.specs.declared.call.Call.{Call}
 use Rattle.lti_machine.specs.declared.reply.Reply.{Reply}
-use Rattle.lti_server.specs.Before.{IsAsked, render, wire_answer, no_memory_answer}
+use Rattle.lti_provider.specs.Answers.{render, wire_answer, no_memory_answer}
+use Rattle.lti_provider.specs.Before.{IsAsked}
 use Rattle.lti_server.specs.State.{SessionState}
 use Rattle.lti_server.specs.Exchange.{Service, terms_of, Member, Exchange, Progress, IsCallOf, ends_with, Runs, read_of, written_of, told_of}
 use Rattle.lti_server.specs.declared.asks.Ask.{Ask}
@@ -63,7 +64,7 @@ pub record Waits (service : Service) (to : Progress) (rest : List ℕ) (new : Se
   pub spelling : Spelling service.limits spelled request
   pub bytes : rest ≡ spelled ++ new.kept
   pub signed : Signed
-  pub asked : IsAsked (terms_of service) request signed
+  pub asked : IsAsked (terms_of service) request signed call.action
   pub call_is : IsCallOf service signed call
   pub sound : IsSound call
   pub pending : new.pending ≡ Some (ends_with service.limits to.count request)

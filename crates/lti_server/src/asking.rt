@@ -1,7 +1,6 @@
 // A session: the requests of a connection, their answers, and the calls that they make.
 ghost use Rattle.std.specs.Prelude.{◌≡◌, ◌<◌, ◌+◌, ◌^◌};
 ghost use Rattle.http_wire.specs.Message.{parts_of};
-ghost use Rattle.lti_machine.specs.declared.call.Action.TheVariants.{Note};
 ghost use Rattle.lti_server.specs.Exchange as exchange;
 
 use crate::asks::{Ask, Next};
@@ -60,8 +59,8 @@ fn ends_with(request: &Request, count: u32, limits: &Limits) -> bool
 }
 
 // The call that a well signed request makes.
-fn call_of(caller: u32, moment: u64, signed: Signed) -> Call
-    ensures { result ≡ record { caller = caller; moment = moment; key = signed.key; timestamp = signed.timestamp; nonce = signed.nonce; action = Note } }
+fn call_of(caller: u32, moment: u64, signed: Signed, action: Action) -> Call
+    ensures { result ≡ record { caller = caller; moment = moment; key = signed.key; timestamp = signed.timestamp; nonce = signed.nonce; action = action } }
 {
     Call {
         caller,
@@ -69,7 +68,7 @@ fn call_of(caller: u32, moment: u64, signed: Signed) -> Call
         key: signed.key,
         timestamp: signed.timestamp,
         nonce: signed.nonce,
-        action: Action::Note,
+        action,
     }
 }
 
@@ -149,11 +148,11 @@ impl Session {
                     }
                 }
             }
-            Ok(Before::Asked(signed)) => match reserve_answer(alloc, ends) {
+            Ok(Before::Asked { signed, action }) => match reserve_answer(alloc, ends) {
                 Ok(pending) => {
                     self.count += 1;
                     self.pending = Some(pending);
-                    Next::Asked(call_of(self.caller, clock.now(), signed))
+                    Next::Asked(call_of(self.caller, clock.now(), signed, action))
                 }
                 Err(_) => {
                     self.ended = true;

@@ -7,7 +7,7 @@
 //! - `check`: the command over a link; `answered`: the lines in whatever pieces; `checker`: which kind of request a line is;
 //!   `verdict`: what is written;
 //! - `answering`: the command `answer`; `settings`, `settings_source`: what it is served with; `sessions`, `asking`: a whole
-//!   connection, and one call of it; `before`: what is said of a request before the machine is asked; `rendering`: the answer
+//!   connection, and one call of it; `before`: what is said of a request before the machine is asked, and `refusals`: its answers; `rendering`: the answer
 //!   to a reply; `refusing`: the answer to bytes that spell no request; `laws`: how bytes are cut doesn't matter.
 #![tactic(auto)]
 
@@ -23,6 +23,7 @@ mod checker;
 mod command;
 mod laws;
 mod pending;
+mod refusals;
 mod refusing;
 mod rendering;
 mod session_end;

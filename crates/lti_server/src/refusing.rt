@@ -3,7 +3,7 @@ ghost use Rattle.std.specs.Prelude.{◌≡◌, ℕ, List, [], ◌∷◌, ◌++�
 ghost use Rattle.lti_outside.specs.Traffic.{Moves, Fault};
 ghost use Rattle.http_wire.specs.Response.{HasReason};
 ghost use Rattle.http_wire.specs.declared.message.Media.TheVariants.{Plain};
-ghost use Rattle.lti_server.specs.Before.{wire_answer};
+ghost use Rattle.lti_provider.specs.Answers.{wire_answer};
 ghost use Rattle.lti_server.specs.Refusal.{Refuses, refused_end};
 
 use crate::session_end::SessionEnd;

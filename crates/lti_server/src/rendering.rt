@@ -1,7 +1,7 @@
 // The answers to the machine's replies.
 ghost use Rattle.std.specs.Prelude.{◌≡◌, ◌≤◌, ◌+◌, ◌++◌, ◌∷◌, [], length, decimal};
 ghost use Rattle.http_wire.specs.Response.{HasReason};
-ghost use Rattle.lti_server.specs.Before.{render};
+ghost use Rattle.lti_provider.specs.Answers.{render};
 
 use itoa::Buffer;
 use lti_machine::Reply;
@@ -44,6 +44,10 @@ pub fn render_into(body: &mut Bytes, reply: Reply) -> u16
     match reply {
         Reply::Noted => {
             put(body, b"selection requested\n");
+            200
+        }
+        Reply::Launched => {
+            put(body, b"launched\n");
             200
         }
         Reply::Outside { now } => {

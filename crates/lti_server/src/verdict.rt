@@ -23,7 +23,7 @@ fn push_reply(out: &mut String, alloc: Global, reply: Reply) -> Result<(), NoMem
     ensures err { OnErr result (string_bytes out.new ≡ string_bytes out.old) }
 {
     match reply {
-        Reply::Noted => out.push_str("accepted\n")?,
+        Reply::Noted | Reply::Launched => out.push_str("accepted\n")?,
         Reply::Outside { now } => out.push_str(format!(in alloc; "outside {now}\n")?.as_str())?,
         Reply::Used => out.push_str("used\n")?,
         Reply::WindowFull { .. } => out.push_str("window full\n")?,

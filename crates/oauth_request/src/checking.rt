@@ -30,6 +30,13 @@ pub struct Signed {
     pub pairs: Pairs,
 }
 
+// Whether the text is the one that was sent, byte for byte.
+fn is_same(text: &Text, sent: &str) -> bool
+    ensures { IsTrue result ↔ (text.now ≡ sent.now) }
+{
+    text.get() == sent
+}
+
 // Whether the text is the request's signature under the secret, without a token.
 fn is_signature(
     alloc: Global,
@@ -45,7 +52,7 @@ fn is_signature(
     let uri = base_uri(alloc, scheme, &request.host, request.path.get())?;
     let base = base_string(alloc, request.method.get(), uri.get(), pairs)?;
     let text = signature(alloc, base.get(), secret, "")?;
-    let holds = text.get() == sent;
+    let holds = is_same(&text, sent);
     Ok(holds)
 }
 

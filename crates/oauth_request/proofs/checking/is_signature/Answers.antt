@@ -14,4 +14,4 @@ returns c =
       base_of = base;
       is = rw c.get-4.ensures at c.in_ok-text.ensures;
     } in
-    signature_tested _ _ _ _ _ c.in_ok-text.text c.args.sent.now c.eq-holds.result (rw c.get-5.ensures at c.eq-holds.ensures) is
+    signature_tested _ _ _ _ _ c.in_ok-text.text c.args.sent.now c.is_same-holds.result c.is_same-holds.ensures is

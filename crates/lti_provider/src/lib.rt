@@ -1,0 +1,16 @@
+//! The tool's end of LTI: what a signed message asks of the machine.
+//!
+//! LTI 1.1.1, section 3: a learning system starts a tool by a signed form, a basic launch. What a message asks is read from
+//! its parameters (`launch_call`), or the first fault that they have is named.
+//!
+//! `specs/Before.antt` and `specs/Answers.antt` say what is answered to a request, before the machine is asked and for its
+//! reply; the crates above prove their answers against these.
+#![tactic(auto)]
+
+mod calls;
+mod fault;
+#[cfg(test)]
+mod tests;
+
+pub use calls::launch_call;
+pub use fault::ProviderFault;
