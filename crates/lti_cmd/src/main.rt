@@ -5,6 +5,9 @@
 //! printed for a status.
 #![tactic(auto)]
 
+mod words;
+
+use crate::words::{Asked, read_words, text_of};
 use lti_outside::{Limits, StdLink, StdSource, SystemClock, SystemRandom};
 use lti_server::run;
 use rand::rngs::StdRng;
@@ -35,32 +38,13 @@ const SETTINGS: &str = "lti.json";
 
 const VERSION: &str = "lti_cmd 0.1.0\n";
 
-// What is printed for a status.
-fn words_of(status: u8) -> &'static str {
-    match status {
-        2 => "usage",
-        3 => "settings",
-        4 => "read fault",
-        5 => "write fault",
-        8 => "want of memory",
-        9 => "cut short",
-        14 => "refused message",
-        _ => "unknown status",
-    }
-}
-
 // The words of the command line, without the program's name.
-fn words(rt: &(impl Env + AllocGlobal)) -> io::Result<Vec<String>> {
+fn given_words(rt: &(impl Env + AllocGlobal)) -> io::Result<Vec<String>> {
     let mut words = Vec::new(rt.alloc());
     for word in env::args(rt)?.skip(1) {
         words.push(word)?;
     }
     Ok(words)
-}
-
-// Whether this one word was given.
-fn is_word(words: &[String], word: &str) -> bool {
-    words.len() == 1 && words[0].as_str() == word
 }
 
 // Does what the words ask, with the settings that this reads. A system that gives no seed is a read fault.
@@ -81,22 +65,20 @@ fn work<R: Read + Drop>(rt: &HostRuntime, words: &[String], settings: R) -> u8 {
 }
 
 fn main(rt: HostRuntime) -> ExitCode {
-    let Ok(words) = words(&rt) else {
-        let _ = eprint!(rt; "{}\n{USAGE}", words_of(2));
+    let Ok(words) = given_words(&rt) else {
+        let _ = eprint!(rt; "{}\n{USAGE}", text_of(2));
         return ExitCode::from(2);
     };
-    let status = if is_word(&words, "--help") {
-        print!(rt; "{USAGE}").map_or(5, |()| 0)
-    } else if is_word(&words, "--version") {
-        print!(rt; "{VERSION}").map_or(5, |()| 0)
-    } else {
-        match File::open(&rt, SETTINGS) {
+    let status = match read_words(&words) {
+        Asked::Help => print!(rt; "{USAGE}").map_or(5, |()| 0),
+        Asked::Version => print!(rt; "{VERSION}").map_or(5, |()| 0),
+        Asked::Work => match File::open(&rt, SETTINGS) {
             Ok(file) => work(&rt, &words, file),
             Err(_) => work(&rt, &words, io::empty()),
-        }
+        },
     };
     if status != 0 {
-        let _ = eprintln!(rt; "{}", words_of(status));
+        let _ = eprintln!(rt; "{}", text_of(status));
     }
     if status == 2 {
         let _ = eprint!(rt; "{USAGE}");

@@ -1,0 +1,65 @@
+// What the program does by its words, and what it prints for a status.
+ghost use Rattle.std.specs.Prelude.{◌≡◌, ◌↔◌, [], ◌∷◌, IsTrue, codes, map, string_bytes};
+ghost use Rattle.lti_cmd.specs.Words.{IsAsked, table, text_in};
+
+/// What the words ask of the program.
+#[derive(Clone, Copy, Debug, PartialEq, Eq)]
+pub enum Asked {
+    /// The text of `--help`.
+    Help,
+    /// The text of `--version`.
+    Version,
+    /// What `lti_server::run` makes of the words.
+    Work,
+}
+
+/// What the words ask: a text by the one word `--help` or `--version`, and everything else by `run`.
+pub fn read_words(words: &[String]) -> Asked
+    ensures { IsAsked (map string_bytes words.now) result }
+{
+    match words {
+        [word] => read_word(word.as_str()),
+        _ => Asked::Work,
+    }
+}
+
+// What one word asks.
+fn read_word(word: &str) -> Asked
+    ensures { IsAsked (word.now ∷ []) result }
+{
+    if is_help(word) {
+        Asked::Help
+    } else if is_version(word) {
+        Asked::Version
+    } else {
+        Asked::Work
+    }
+}
+
+fn is_help(word: &str) -> bool
+    ensures { IsTrue result ↔ (word.now ≡ codes "--help") }
+{
+    word == "--help"
+}
+
+fn is_version(word: &str) -> bool
+    ensures { IsTrue result ↔ (word.now ≡ codes "--version") }
+{
+    word == "--version"
+}
+
+/// What is printed on standard error for a status that isn't 0.
+pub fn text_of(status: u8) -> &'static str
+    ensures { result.now ≡ text_in table status }
+{
+    match status {
+        2 => "usage",
+        3 => "settings",
+        4 => "read fault",
+        5 => "write fault",
+        8 => "want of memory",
+        9 => "cut short",
+        14 => "refused message",
+        _ => "unknown status",
+    }
+}
