@@ -1,0 +1,7 @@
+pub mod Fields
+pub mod Parameters
+pub mod Faults
+pub mod Launch
+pub mod Found
+pub mod CustomName
+pub mod Laws

@@ -1,0 +1,123 @@
+// A launch.
+ghost use Rattle.std.specs.Prelude.{◌≡◌, None, IfOk, IfErr, OnOk, map};
+ghost use Rattle.std.specs.Option.{option_map};
+ghost use Rattle.lti_launch.specs.Faults.{fault_of, IsFaultOf};
+ghost use Rattle.lti_launch.specs.Launch.{launch_of, value_of, pairs_of};
+ghost use Rattle.lti_launch.specs.Laws.{Spells};
+
+use crate::fields::ALL_FIELDS;
+use crate::found::Found;
+use crate::sorted::Sorted;
+use crate::{LaunchFault, LaunchField};
+use lti_outside::{NoMemory, Pair, Pairs, Text};
+use std::alloc::Global;
+use std::marker::Model;
+
+/// A launch (LTI 1.1.1, section 3): the values of the standard's parameters, the custom parameters, the extensions, and
+/// the pairs of other names, each in the order sent and with its repeats. What belongs to the signature isn't kept.
+///
+/// Its message type and version are those of a launch, its resource link isn't empty, and no parameter of the standard
+/// stands twice. Another parameter may be empty, which isn't the same as absent.
+#[derive(Drop)]
+pub struct Launch {
+    found: Vec<Found>,
+    custom: Pairs,
+    ext: Pairs,
+    rest: Pairs,
+}
+
+impl Model for Launch {
+    ghost use Rattle.std.specs.Prelude.{map};
+    ghost use Rattle.lti_launch.specs.Found.{value_found};
+    ghost use Rattle.lti_launch.specs.Launch.{LaunchValue, IsLaunch};
+
+    ghost Value = { LaunchValue };
+
+    ghost view = { λ l. record { fields = map value_found l.found.items; custom = l.custom; ext = l.ext; rest = l.rest } };
+
+    ghost invariant = { λ l. IsLaunch record { fields = map value_found l.found.items; custom = l.custom; ext = l.ext; rest = l.rest } };
+}
+
+impl Launch {
+    ghost use Rattle.std.specs.Prelude.{◌≡◌, None, IfOk, IfErr, OnOk, map};
+    ghost use Rattle.std.specs.Option.{option_map};
+    ghost use Rattle.lti_launch.specs.Faults.{fault_of, IsFaultOf};
+    ghost use Rattle.lti_launch.specs.Launch.{launch_of, value_of, pairs_of};
+    ghost use Rattle.lti_launch.specs.Fields.{all_fields};
+    ghost use Rattle.lti_launch.specs.Launch as spec;
+    ghost use Rattle.lti_launch.specs.Laws.{Spells};
+
+    /// The launch that the pairs of a message spell, or the first fault that they have. The pairs are gone over once.
+    pub fn read(alloc: Global, pairs: &Pairs) -> Result<Launch, LaunchFault>
+        ensures launch { IfOk result (λ launch. launch ≡ launch_of pairs.now) }
+        ensures faultless { OnOk result (fault_of pairs.now ≡ None) }
+        ensures fault { IfErr result (IsFaultOf pairs.now) }
+    {
+        let sorted = Sorted::of(alloc, pairs.as_slice())?;
+        sorted.judge()?;
+        Ok(Launch {
+            found: sorted.found,
+            custom: sorted.custom,
+            ext: sorted.ext,
+            rest: sorted.rest,
+        })
+    }
+
+    /// The value of a parameter, or none where it is absent.
+    pub fn get(&self, field: LaunchField) -> Option<&str>
+        ensures { option_map (λ value. value.now) result ≡ value_of self.now field }
+    {
+        self.found[field.place()].value()
+    }
+
+    /// The custom parameters: the pairs whose names begin with `custom_`.
+    pub fn custom(&self) -> &Pairs
+        ensures { result.now ≡ self.now.custom }
+    {
+        &self.custom
+    }
+
+    /// The extensions: the pairs whose names begin with `ext_`.
+    pub fn ext(&self) -> &Pairs
+        ensures { result.now ≡ self.now.ext }
+    {
+        &self.ext
+    }
+
+    /// The pairs of all other names that don't begin with `oauth_`.
+    pub fn rest(&self) -> &Pairs
+        ensures { result.now ≡ self.now.rest }
+    {
+        &self.rest
+    }
+
+    // The pairs of the parameters that have values, in order.
+    fn field_pairs(&self) -> Result<Pairs, NoMemory>
+        ensures { IfOk result (λ pairs. pairs ≡ spec.field_pairs all_fields self.now.fields) }
+    {
+        let alloc = *self.found.allocator();
+        let mut pairs = Pairs::new(alloc);
+        for (place, found) in self.found.iter().enumerate() {
+            if let Some(value) = found.value() {
+                pairs.push(Pair {
+                    name: Text::new(alloc, ALL_FIELDS[place].name())?,
+                    value: Text::new(alloc, value)?,
+                })?;
+            }
+        }
+        Ok(pairs)
+    }
+
+    /// The pairs of the launch: the parameters that have values, in the standard's order, then the custom parameters, the
+    /// extensions and the others. They are read as this launch.
+    pub fn pairs(&self) -> Result<Pairs, NoMemory>
+        ensures pairs { IfOk result (λ pairs. pairs ≡ pairs_of self.now) }
+        ensures read_back { IfOk result (λ pairs. Spells pairs self.now) }
+    {
+        let mut pairs = self.field_pairs()?;
+        pairs.append(self.custom.copy()?)?;
+        pairs.append(self.ext.copy()?)?;
+        pairs.append(self.rest.copy()?)?;
+        Ok(pairs)
+    }
+}
