@@ -1,6 +1,6 @@
 //! `run` with `answer`, and a session, over links in memory. The signatures were made with Python's hmac.
 use super::*;
-use lti_machine::Reply;
+use lti_machine::{Action, Reply};
 use lti_outside::{Bytes, FixedClock, Limits, ListRandom, MemoryLink, MemorySink, MemorySource};
 use std::alloc::Global;
 use std::process::Abort;
@@ -14,10 +14,10 @@ const TWICE: &str =
     "POST /lti/launch HTTP/1.1\r\nHost: tool.example\r\nContent-Type: application/x-www-form-urlencoded\r\nContent-Length: 779\r\n\r\nuser_id=2&lis_person_sourcedid=&roles=Instructor%2Curn%3Alti%3Asysrole%3Aims%2Flis%2FAdministrator&context_id=3&context_label=LTI101&context_title=LTI+Course&context_type=CourseSection&resource_link_id=1&resource_link_title=Quiz&lis_result_sourcedid=3124567&lis_outcome_service_url=https%3A%2F%2Flms.example%2Flti%2Foutcomes&lis_person_name_full=Ada+Byron&launch_presentation_locale=en&launch_presentation_document_target=iframe&ext_lms=moodle-2&tool_consumer_info_product_family_code=moodle&custom_level=1&oauth_callback=about%3Ablank&oauth_token=&lti_version=LTI-1p0&lti_message_type=basic-lti-launch-request&oauth_consumer_key=12345&oauth_signature_method=HMAC-SHA1&oauth_timestamp=1400000000&oauth_nonce=7f3c&oauth_version=1.0&oauth_signature=6LzExEl7KzU5Re%2F0hdmKxuet7iU%3DPOST /lti/launch HTTP/1.1\r\nHost: tool.example\r\nContent-Type: application/x-www-form-urlencoded\r\nContent-Length: 779\r\n\r\nuser_id=2&lis_person_sourcedid=&roles=Instructor%2Curn%3Alti%3Asysrole%3Aims%2Flis%2FAdministrator&context_id=3&context_label=LTI101&context_title=LTI+Course&context_type=CourseSection&resource_link_id=1&resource_link_title=Quiz&lis_result_sourcedid=3124567&lis_outcome_service_url=https%3A%2F%2Flms.example%2Flti%2Foutcomes&lis_person_name_full=Ada+Byron&launch_presentation_locale=en&launch_presentation_document_target=iframe&ext_lms=moodle-2&tool_consumer_info_product_family_code=moodle&custom_level=1&oauth_callback=about%3Ablank&oauth_token=&lti_version=LTI-1p0&lti_message_type=basic-lti-launch-request&oauth_consumer_key=12345&oauth_signature_method=HMAC-SHA1&oauth_timestamp=1400000000&oauth_nonce=7f3c&oauth_version=1.0&oauth_signature=6LzExEl7KzU5Re%2F0hdmKxuet7iU%3D";
 
 const ACCEPTED: &str =
-    "HTTP/1.1 200 OK\r\nContent-Type: text/plain; charset=utf-8\r\nContent-Length: 20\r\nConnection: keep-alive\r\n\r\nselection requested\n";
+    "HTTP/1.1 200 OK\r\nContent-Type: text/plain; charset=utf-8\r\nContent-Length: 9\r\nConnection: keep-alive\r\n\r\nlaunched\n";
 
 const ACCEPTED_AND_USED: &str =
-    "HTTP/1.1 200 OK\r\nContent-Type: text/plain; charset=utf-8\r\nContent-Length: 20\r\nConnection: keep-alive\r\n\r\nselection requested\nHTTP/1.1 401 Unauthorized\r\nContent-Type: text/plain; charset=utf-8\r\nContent-Length: 19\r\nWWW-Authenticate: OAuth\r\nConnection: keep-alive\r\n\r\nnonce already used\n";
+    "HTTP/1.1 200 OK\r\nContent-Type: text/plain; charset=utf-8\r\nContent-Length: 9\r\nConnection: keep-alive\r\n\r\nlaunched\nHTTP/1.1 401 Unauthorized\r\nContent-Type: text/plain; charset=utf-8\r\nContent-Length: 19\r\nWWW-Authenticate: OAuth\r\nConnection: keep-alive\r\n\r\nnonce already used\n";
 
 // A source that gives the text in pieces of this size, and whose calls of these numbers fail.
 fn source(alloc: Global, text: &[u8], size: usize, failing: &[u64]) -> Result<MemorySource, Fail> {
@@ -144,9 +144,9 @@ fn each_answer(rt: HostRuntime) -> Result<(), Fail> {
             "HTTP/1.1 413 Content Too Large\r\nContent-Type: text/plain; charset=utf-8\r\nContent-Length: 14\r\nConnection: close\r\n\r\nbody too long\n",
         ),
         (
-            "POST /lti/launch HTTP/1.1\r\nHost: tool.example\r\nContent-Type: application/x-www-form-urlencoded\r\nContent-Length: 164\r\n\r\noauth_consumer_key=12345&oauth_signature_method=HMAC-SHA1&oauth_timestamp=1400000000&oauth_nonce=n1&oauth_version=1.0&oauth_signature=7cgzk1MvMpvJ7WCAU23RHfhQzOo%3DGET\r\n\r\n",
+            "POST /lti/launch HTTP/1.1\r\nHost: tool.example\r\nContent-Type: application/x-www-form-urlencoded\r\nContent-Length: 249\r\n\r\nresource_link_id=1&lti_version=LTI-1p0&lti_message_type=basic-lti-launch-request&oauth_consumer_key=12345&oauth_signature_method=HMAC-SHA1&oauth_timestamp=1400000000&oauth_nonce=n1&oauth_version=1.0&oauth_signature=v%2BqygIG2NPUTBvE1vW6i9%2B6GxRw%3DGET\r\n\r\n",
             14,
-            "HTTP/1.1 200 OK\r\nContent-Type: text/plain; charset=utf-8\r\nContent-Length: 20\r\nConnection: keep-alive\r\n\r\nselection requested\nHTTP/1.1 400 Bad Request\r\nContent-Type: text/plain; charset=utf-8\r\nContent-Length: 9\r\nConnection: close\r\n\r\nbad head\n",
+            "HTTP/1.1 200 OK\r\nContent-Type: text/plain; charset=utf-8\r\nContent-Length: 9\r\nConnection: keep-alive\r\n\r\nlaunched\nHTTP/1.1 400 Bad Request\r\nContent-Type: text/plain; charset=utf-8\r\nContent-Length: 9\r\nConnection: close\r\n\r\nbad head\n",
         ),
         ("", 0, ""),
         (
@@ -205,14 +205,14 @@ fn each_answer(rt: HostRuntime) -> Result<(), Fail> {
             "HTTP/1.1 401 Unauthorized\r\nContent-Type: text/plain; charset=utf-8\r\nContent-Length: 19\r\nWWW-Authenticate: OAuth\r\nConnection: keep-alive\r\n\r\nsignature mismatch\n",
         ),
         (
-            "POST /lti/launch HTTP/1.1\r\nHost: tool.example\r\nContent-Type: application/x-www-form-urlencoded\r\nContent-Length: 166\r\n\r\noauth_consumer_key=12345&oauth_signature_method=HMAC-SHA1&oauth_timestamp=1399994599&oauth_nonce=n1&oauth_version=1.0&oauth_signature=O56acYi5X9QJNP6iYZnPtN3%2BsuU%3D",
+            "POST /lti/launch HTTP/1.1\r\nHost: tool.example\r\nContent-Type: application/x-www-form-urlencoded\r\nContent-Length: 245\r\n\r\nresource_link_id=1&lti_version=LTI-1p0&lti_message_type=basic-lti-launch-request&oauth_consumer_key=12345&oauth_signature_method=HMAC-SHA1&oauth_timestamp=1399994599&oauth_nonce=n1&oauth_version=1.0&oauth_signature=JrKj8aq7m96IUD1GLgMKJbNS3pM%3D",
             0,
             "HTTP/1.1 401 Unauthorized\r\nContent-Type: text/plain; charset=utf-8\r\nContent-Length: 33\r\nWWW-Authenticate: OAuth\r\nConnection: keep-alive\r\n\r\noutside the window at 1400000000\n",
         ),
         (
-            "GET /lti/launch HTTP/1.1\r\nHost: tool.example\r\n\r\nHEAD /lti/launch HTTP/1.1\r\nHost: tool.example\r\n\r\nPOST /x HTTP/1.1\r\nHost: tool.example\r\nContent-Type: application/x-www-form-urlencoded\r\nContent-Length: 3\r\n\r\na=1POST /lti/outcomes HTTP/1.1\r\nHost: tool.example\r\nContent-Type: application/x-www-form-urlencoded\r\nContent-Length: 3\r\n\r\na=1POST /lti/launch HTTP/1.1\r\nHost: tool.example\r\nContent-Type: text/xml\r\nContent-Length: 3\r\n\r\na=1POST /lti/launch HTTP/1.1\r\nHost: tool.example\r\nContent-Encoding: gzip\r\nContent-Type: application/x-www-form-urlencoded\r\nContent-Length: 3\r\n\r\na=1POST /lti/launch HTTP/1.1\r\nHost: tool.example\r\nContent-Type: application/x-www-form-urlencoded\r\nContent-Length: 164\r\n\r\noauth_consumer_key=12345&oauth_signature_method=HMAC-SHA1&oauth_timestamp=1400000000&oauth_nonce=n1&oauth_version=1.0&oauth_signature=7cgzk1MvMpvJ7WCAU23RHfhQzOo%3D",
+            "GET /lti/launch HTTP/1.1\r\nHost: tool.example\r\n\r\nHEAD /lti/launch HTTP/1.1\r\nHost: tool.example\r\n\r\nPOST /x HTTP/1.1\r\nHost: tool.example\r\nContent-Type: application/x-www-form-urlencoded\r\nContent-Length: 3\r\n\r\na=1POST /lti/outcomes HTTP/1.1\r\nHost: tool.example\r\nContent-Type: application/x-www-form-urlencoded\r\nContent-Length: 3\r\n\r\na=1POST /lti/launch HTTP/1.1\r\nHost: tool.example\r\nContent-Type: text/xml\r\nContent-Length: 3\r\n\r\na=1POST /lti/launch HTTP/1.1\r\nHost: tool.example\r\nContent-Encoding: gzip\r\nContent-Type: application/x-www-form-urlencoded\r\nContent-Length: 3\r\n\r\na=1POST /lti/launch HTTP/1.1\r\nHost: tool.example\r\nContent-Type: application/x-www-form-urlencoded\r\nContent-Length: 249\r\n\r\nresource_link_id=1&lti_version=LTI-1p0&lti_message_type=basic-lti-launch-request&oauth_consumer_key=12345&oauth_signature_method=HMAC-SHA1&oauth_timestamp=1400000000&oauth_nonce=n1&oauth_version=1.0&oauth_signature=v%2BqygIG2NPUTBvE1vW6i9%2B6GxRw%3D",
             0,
-            "HTTP/1.1 405 Method Not Allowed\r\nContent-Type: text/plain; charset=utf-8\r\nContent-Length: 19\r\nAllow: POST\r\nConnection: keep-alive\r\n\r\nmethod not allowed\nHTTP/1.1 405 Method Not Allowed\r\nContent-Type: text/plain; charset=utf-8\r\nContent-Length: 0\r\nAllow: POST\r\nConnection: keep-alive\r\n\r\nHTTP/1.1 404 Not Found\r\nContent-Type: text/plain; charset=utf-8\r\nContent-Length: 10\r\nConnection: keep-alive\r\n\r\nnot found\nHTTP/1.1 404 Not Found\r\nContent-Type: text/plain; charset=utf-8\r\nContent-Length: 10\r\nConnection: keep-alive\r\n\r\nnot found\nHTTP/1.1 415 Unsupported Media Type\r\nContent-Type: text/plain; charset=utf-8\r\nContent-Length: 23\r\nConnection: keep-alive\r\n\r\nunsupported media type\nHTTP/1.1 415 Unsupported Media Type\r\nContent-Type: text/plain; charset=utf-8\r\nContent-Length: 23\r\nConnection: keep-alive\r\n\r\nunsupported media type\nHTTP/1.1 200 OK\r\nContent-Type: text/plain; charset=utf-8\r\nContent-Length: 20\r\nConnection: keep-alive\r\n\r\nselection requested\n",
+            "HTTP/1.1 405 Method Not Allowed\r\nContent-Type: text/plain; charset=utf-8\r\nContent-Length: 19\r\nAllow: POST\r\nConnection: keep-alive\r\n\r\nmethod not allowed\nHTTP/1.1 405 Method Not Allowed\r\nContent-Type: text/plain; charset=utf-8\r\nContent-Length: 0\r\nAllow: POST\r\nConnection: keep-alive\r\n\r\nHTTP/1.1 404 Not Found\r\nContent-Type: text/plain; charset=utf-8\r\nContent-Length: 10\r\nConnection: keep-alive\r\n\r\nnot found\nHTTP/1.1 404 Not Found\r\nContent-Type: text/plain; charset=utf-8\r\nContent-Length: 10\r\nConnection: keep-alive\r\n\r\nnot found\nHTTP/1.1 415 Unsupported Media Type\r\nContent-Type: text/plain; charset=utf-8\r\nContent-Length: 23\r\nConnection: keep-alive\r\n\r\nunsupported media type\nHTTP/1.1 415 Unsupported Media Type\r\nContent-Type: text/plain; charset=utf-8\r\nContent-Length: 23\r\nConnection: keep-alive\r\n\r\nunsupported media type\nHTTP/1.1 200 OK\r\nContent-Type: text/plain; charset=utf-8\r\nContent-Length: 9\r\nConnection: keep-alive\r\n\r\nlaunched\n",
         ),
         (
             "POST /lti/launch HTTP/1.1\r\nHost: tool.example\r\nConnection: Close\r\nContent-Type: application/x-www-form-urlencoded\r\nContent-Length: 5\r\n\r\na=%FFGET",
@@ -236,6 +236,50 @@ fn each_answer(rt: HostRuntime) -> Result<(), Fail> {
     Ok(())
 }
 
+// With a browser's header lines; with each fault, of which the first leaves its nonce to the launch behind it; and with a fault
+// of its signature before its own.
+#[test]
+fn what_a_launch_is_answered(rt: HostRuntime) -> Result<(), Fail> {
+    let alloc = rt.alloc();
+    let usual = Limits::usual();
+    for (text, want) in [
+        (
+            "POST /lti/launch HTTP/1.1\r\nHost: tool.example\r\nUser-Agent: Mozilla/5.0 (X11; Linux x86_64; rv:128.0) Gecko/20100101 Firefox/128.0\r\nAccept: text/html,application/xhtml+xml;q=0.9,*/*;q=0.8\r\nAccept-Language: en-US,en;q=0.5\r\nAccept-Encoding: gzip, deflate, br\r\nOrigin: https://lms.example\r\nReferer: https://lms.example/mod/lti/launch.php?id=1\r\nCookie: a=1; b=2\r\nConnection: keep-alive\r\nContent-Type: application/x-www-form-urlencoded\r\nContent-Length: 779\r\n\r\nuser_id=2&lis_person_sourcedid=&roles=Instructor%2Curn%3Alti%3Asysrole%3Aims%2Flis%2FAdministrator&context_id=3&context_label=LTI101&context_title=LTI+Course&context_type=CourseSection&resource_link_id=1&resource_link_title=Quiz&lis_result_sourcedid=3124567&lis_outcome_service_url=https%3A%2F%2Flms.example%2Flti%2Foutcomes&lis_person_name_full=Ada+Byron&launch_presentation_locale=en&launch_presentation_document_target=iframe&ext_lms=moodle-2&tool_consumer_info_product_family_code=moodle&custom_level=1&oauth_callback=about%3Ablank&oauth_token=&lti_version=LTI-1p0&lti_message_type=basic-lti-launch-request&oauth_consumer_key=12345&oauth_signature_method=HMAC-SHA1&oauth_timestamp=1400000000&oauth_nonce=7f3c&oauth_version=1.0&oauth_signature=6LzExEl7KzU5Re%2F0hdmKxuet7iU%3D",
+            "HTTP/1.1 200 OK\r\nContent-Type: text/plain; charset=utf-8\r\nContent-Length: 9\r\nConnection: keep-alive\r\n\r\nlaunched\n",
+        ),
+        (
+            "POST /lti/launch HTTP/1.1\r\nHost: tool.example\r\nContent-Type: application/x-www-form-urlencoded\r\nContent-Length: 203\r\n\r\nresource_link_id=1&lti_version=LTI-1p0&oauth_consumer_key=12345&oauth_signature_method=HMAC-SHA1&oauth_timestamp=1400000000&oauth_nonce=n1&oauth_version=1.0&oauth_signature=dcLPpfTEcGfj235Scx21G3sxs9c%3DPOST /lti/launch HTTP/1.1\r\nHost: tool.example\r\nContent-Type: application/x-www-form-urlencoded\r\nContent-Length: 249\r\n\r\nresource_link_id=1&lti_version=LTI-1p0&lti_message_type=basic-lti-launch-request&oauth_consumer_key=12345&oauth_signature_method=HMAC-SHA1&oauth_timestamp=1400000000&oauth_nonce=n1&oauth_version=1.0&oauth_signature=v%2BqygIG2NPUTBvE1vW6i9%2B6GxRw%3D",
+            "HTTP/1.1 400 Bad Request\r\nContent-Type: text/plain; charset=utf-8\r\nContent-Length: 19\r\nConnection: keep-alive\r\n\r\nwrong message type\nHTTP/1.1 200 OK\r\nContent-Type: text/plain; charset=utf-8\r\nContent-Length: 9\r\nConnection: keep-alive\r\n\r\nlaunched\n",
+        ),
+        (
+            "POST /lti/launch HTTP/1.1\r\nHost: tool.example\r\nContent-Type: application/x-www-form-urlencoded\r\nContent-Length: 252\r\n\r\nresource_link_id=1&lti_version=LTI-1p0&lti_message_type=ContentItemSelectionRequest&oauth_consumer_key=12345&oauth_signature_method=HMAC-SHA1&oauth_timestamp=1400000000&oauth_nonce=n1&oauth_version=1.0&oauth_signature=SEKrYvVYEU04ss8z%2Fv%2F9hDQLymM%3D",
+            "HTTP/1.1 400 Bad Request\r\nContent-Type: text/plain; charset=utf-8\r\nContent-Length: 19\r\nConnection: keep-alive\r\n\r\nwrong message type\n",
+        ),
+        (
+            "POST /lti/launch HTTP/1.1\r\nHost: tool.example\r\nContent-Type: application/x-www-form-urlencoded\r\nContent-Length: 247\r\n\r\nresource_link_id=1&lti_version=LTI-2p0&lti_message_type=basic-lti-launch-request&oauth_consumer_key=12345&oauth_signature_method=HMAC-SHA1&oauth_timestamp=1400000000&oauth_nonce=n1&oauth_version=1.0&oauth_signature=r%2FWmxLEsBMzZA6ozZdqbJVsy1A8%3D",
+            "HTTP/1.1 400 Bad Request\r\nContent-Type: text/plain; charset=utf-8\r\nContent-Length: 18\r\nConnection: keep-alive\r\n\r\nwrong lti version\n",
+        ),
+        (
+            "POST /lti/launch HTTP/1.1\r\nHost: tool.example\r\nContent-Type: application/x-www-form-urlencoded\r\nContent-Length: 248\r\n\r\nresource_link_id=&lti_version=LTI-1p0&lti_message_type=basic-lti-launch-request&oauth_consumer_key=12345&oauth_signature_method=HMAC-SHA1&oauth_timestamp=1400000000&oauth_nonce=n1&oauth_version=1.0&oauth_signature=RMabT%2Bs0O9hnGCUzO634%2FS56Bxg%3D",
+            "HTTP/1.1 400 Bad Request\r\nContent-Type: text/plain; charset=utf-8\r\nContent-Length: 25\r\nConnection: keep-alive\r\n\r\nmissing resource_link_id\n",
+        ),
+        (
+            "POST /lti/launch HTTP/1.1\r\nHost: tool.example\r\nContent-Type: application/x-www-form-urlencoded\r\nContent-Length: 291\r\n\r\nresource_link_id=1&lti_version=LTI-1p0&lti_message_type=basic-lti-launch-request&user_id=2&context_id=3&user_id=2&context_id=3&oauth_consumer_key=12345&oauth_signature_method=HMAC-SHA1&oauth_timestamp=1400000000&oauth_nonce=n1&oauth_version=1.0&oauth_signature=B3LSdPzOR9swthTSFFskfwNA7I8%3D",
+            "HTTP/1.1 400 Bad Request\r\nContent-Type: text/plain; charset=utf-8\r\nContent-Length: 17\r\nConnection: keep-alive\r\n\r\nrepeated user_id\n",
+        ),
+        (
+            "POST /lti/launch HTTP/1.1\r\nHost: tool.example\r\nContent-Type: application/x-www-form-urlencoded\r\nContent-Length: 174\r\n\r\nresource_link_id=1&lti_version=LTI-1p0&oauth_consumer_key=12345&oauth_signature_method=HMAC-SHA1&oauth_timestamp=1400000000&oauth_nonce=n1&oauth_version=1.0&oauth_signature=x",
+            "HTTP/1.1 401 Unauthorized\r\nContent-Type: text/plain; charset=utf-8\r\nContent-Length: 19\r\nWWW-Authenticate: OAuth\r\nConnection: keep-alive\r\n\r\nsignature mismatch\n",
+        ),
+    ] {
+        assert!(rt;
+            is_answered_so(&rt, alloc, text.as_bytes(), 4_096, &usual, 0, want.as_bytes())?,
+            "at {want}"
+        );
+    }
+    Ok(())
+}
+
 #[test]
 fn limits_of_a_connection(rt: HostRuntime) -> Result<(), Fail> {
     let alloc = rt.alloc();
@@ -244,9 +288,9 @@ fn limits_of_a_connection(rt: HostRuntime) -> Result<(), Fail> {
     narrow.requests = 2;
     for (text, status, want) in [
         (
-            "POST /lti/launch HTTP/1.1\r\nHost: tool.example\r\nContent-Type: application/x-www-form-urlencoded\r\nContent-Length: 164\r\n\r\noauth_consumer_key=12345&oauth_signature_method=HMAC-SHA1&oauth_timestamp=1400000000&oauth_nonce=n1&oauth_version=1.0&oauth_signature=7cgzk1MvMpvJ7WCAU23RHfhQzOo%3DPOST /lti/launch HTTP/1.1\r\nHost: tool.example\r\nContent-Type: application/x-www-form-urlencoded\r\nContent-Length: 164\r\n\r\noauth_consumer_key=12345&oauth_signature_method=HMAC-SHA1&oauth_timestamp=1400000000&oauth_nonce=n2&oauth_version=1.0&oauth_signature=ii4zw2kv5BFbUVcdRvoYdBx8Dg4%3D",
+            "POST /lti/launch HTTP/1.1\r\nHost: tool.example\r\nContent-Type: application/x-www-form-urlencoded\r\nContent-Length: 249\r\n\r\nresource_link_id=1&lti_version=LTI-1p0&lti_message_type=basic-lti-launch-request&oauth_consumer_key=12345&oauth_signature_method=HMAC-SHA1&oauth_timestamp=1400000000&oauth_nonce=n1&oauth_version=1.0&oauth_signature=v%2BqygIG2NPUTBvE1vW6i9%2B6GxRw%3DPOST /lti/launch HTTP/1.1\r\nHost: tool.example\r\nContent-Type: application/x-www-form-urlencoded\r\nContent-Length: 247\r\n\r\nresource_link_id=1&lti_version=LTI-1p0&lti_message_type=basic-lti-launch-request&oauth_consumer_key=12345&oauth_signature_method=HMAC-SHA1&oauth_timestamp=1400000000&oauth_nonce=n2&oauth_version=1.0&oauth_signature=vhpKf8ffMnA%2BxjIOQGkxmWWLixw%3D",
             0,
-            "HTTP/1.1 200 OK\r\nContent-Type: text/plain; charset=utf-8\r\nContent-Length: 20\r\nConnection: keep-alive\r\n\r\nselection requested\nHTTP/1.1 503 Service Unavailable\r\nContent-Type: text/plain; charset=utf-8\r\nContent-Length: 17\r\nConnection: close\r\n\r\nwindow full at 1\n",
+            "HTTP/1.1 200 OK\r\nContent-Type: text/plain; charset=utf-8\r\nContent-Length: 9\r\nConnection: keep-alive\r\n\r\nlaunched\nHTTP/1.1 503 Service Unavailable\r\nContent-Type: text/plain; charset=utf-8\r\nContent-Length: 17\r\nConnection: close\r\n\r\nwindow full at 1\n",
         ),
         (
             "POST /x HTTP/1.1\r\nHost: tool.example\r\nContent-Type: application/x-www-form-urlencoded\r\nContent-Length: 3\r\n\r\na=1POST /x HTTP/1.1\r\nHost: tool.example\r\nContent-Type: application/x-www-form-urlencoded\r\nContent-Length: 3\r\n\r\na=1POST /x HTTP/1.1\r\nHost: tool.example\r\nContent-Type: application/x-www-form-urlencoded\r\nContent-Length: 3\r\n\r\na=1",
@@ -368,6 +412,11 @@ fn a_session_asks_and_tells(rt: HostRuntime) -> Result<(), Fail> {
     assert_eq!(rt; call.timestamp, 1_400_000_000);
     assert_eq!(rt; call.key.get(), "12345");
     assert_eq!(rt; call.nonce.get(), "7f3c");
+    let Action::Launch { link, user, .. } = &call.action else {
+        return Err(Fail::new("no launch"));
+    };
+    assert_eq!(rt; link.get(), "1");
+    assert_eq!(rt; user.get(), "2");
     assert!(rt; session.waiting());
     assert!(rt; !session.ended());
     assert!(rt; session.tell(&mut ends, Reply::NoMemory).is_ok());

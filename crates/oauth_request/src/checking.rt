@@ -1,5 +1,5 @@
 // Whether a request is well signed.
-ghost use Rattle.std.specs.Prelude.{◌≡◌, ◌↔◌, ◌<◌, ◌≤◌, false, [], length, IsTrue, IfOk, IfErr, OnOk};
+ghost use Rattle.std.specs.Prelude.{◌≡◌, ◌↔◌, ◌<◌, ◌≤◌, false, [], length, bytes_eq, IsTrue, IfOk, IfErr, OnOk};
 ghost use Rattle.sha1.specs.Sha1.{sha1};
 ghost use Rattle.lti_outside.specs.Limits.{IsSound};
 ghost use Rattle.oauth_sign.specs.BaseUri.{base_uri_of};
@@ -32,7 +32,7 @@ pub struct Signed {
 
 // Whether the text is the one that was sent, byte for byte.
 fn is_same(text: &Text, sent: &str) -> bool
-    ensures { IsTrue result ↔ (text.now ≡ sent.now) }
+    ensures { result ≡ bytes_eq text.now sent.now }
 {
     text.get() == sent
 }
