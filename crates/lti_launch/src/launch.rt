@@ -5,7 +5,6 @@ ghost use Rattle.lti_launch.specs.Faults.{fault_of, IsFaultOf};
 ghost use Rattle.lti_launch.specs.Launch.{launch_of, value_of, pairs_of};
 ghost use Rattle.lti_launch.specs.Laws.{Spells};
 
-use crate::fields::ALL_FIELDS;
 use crate::found::Found;
 use crate::sorted::Sorted;
 use crate::{LaunchFault, LaunchField};
@@ -97,10 +96,10 @@ impl Launch {
     {
         let alloc = *self.found.allocator();
         let mut pairs = Pairs::new(alloc);
-        for (place, found) in self.found.iter().enumerate() {
+        for (field, found) in LaunchField::all().iter().zip(&self.found) {
             if let Some(value) = found.value() {
                 pairs.push(Pair {
-                    name: Text::new(alloc, ALL_FIELDS[place].name())?,
+                    name: Text::new(alloc, field.name())?,
                     value: Text::new(alloc, value)?,
                 })?;
             }
