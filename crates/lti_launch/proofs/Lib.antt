@@ -5,3 +5,5 @@ pub mod FoundLemmas
 pub mod ValueLemmas
 pub mod KindLemmas
 pub mod SortedLemmas
+pub mod LaunchLemmas
+pub mod BackLemmas

@@ -14,6 +14,15 @@ values-append field xs ys =
     ap (map (λ (p : Pair). p.value)) (filter-append (is_named field) xs ys)
     ∙ map-append (λ (p : Pair). p.value) (filter (is_named field) xs) (filter (is_named field) ys)
 
+-- a pair in front, of this name or another
+pub first_named : (field : LaunchField) (pair : Pair) (pairs : List Pair) → is_named field pair ≡ true → values field (pair ∷ pairs) ≡ pair.value ∷ values field pairs
+unfolding values
+first_named field pair pairs is = rw is refl
+
+pub first_other : (field : LaunchField) (pair : Pair) (pairs : List Pair) → is_named field pair ≡ false → values field (pair ∷ pairs) ≡ values field pairs
+unfolding values
+first_other field pair pairs is = rw is refl
+
 -- one more pair, of this name or another
 pub one_named : (field : LaunchField) (pairs : List Pair) (pair : Pair) → is_named field pair ≡ true → values field (pairs ++ pair ∷ []) ≡ values field pairs ++ pair.value ∷ []
 unfolding values

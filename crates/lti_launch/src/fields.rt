@@ -1,5 +1,5 @@
 // The parameters of a launch.
-ghost use Rattle.std.specs.Prelude.{◌≡◌, ◌<◌, bytes_eq, slice_get};
+ghost use Rattle.std.specs.Prelude.{◌≡◌, ◌<◌, bytes_eq, slice_get, length};
 ghost use Rattle.std.specs.List.{find};
 ghost use Rattle.lti_launch.specs.Fields.{all_fields, name_of, place_of, fields_of_length};
 
@@ -195,7 +195,8 @@ impl LaunchField {
     /// All parameters, in the standard's order.
     #[tactic(auto, unfolding(crate::specs::Fields::all_fields))]
     pub fn all() -> &'static [LaunchField]
-        ensures { result.now ≡ all_fields }
+        ensures all { result.now ≡ all_fields }
+        ensures count { length result.now ≡ 35 }
     {
         &ALL_FIELDS
     }
