@@ -1,5 +1,5 @@
 -- What was found under the names of a launch's parameters, and beside them.
-use Rattle.std.specs.Prelude.{◌≡◌, ℕ, ◌||◌, not, List, [], ◌∷◌, map, filter, Option, None, Some}
+use Rattle.std.specs.Prelude.{◌≡◌, ℕ, Bool, true, false, not, List, [], ◌∷◌, map, filter, Option, None, Some}
 use Rattle.std.specs.List.{list_all}
 use Rattle.lti_outside.specs.declared.pairs.Pair.{Pair}
 use Rattle.lti_launch.specs.declared.fields.LaunchField.{LaunchField}
@@ -20,6 +20,17 @@ found_of field (value ∷ other ∷ values) = Repeated (list_all (fits field) (v
 abbrev pub value_found : Found → Option (List ℕ)
 value_found (Once value) = Some value
 value_found other = None
+
+-- two values or more were found
+abbrev pub is_repeat : Found → Bool
+is_repeat (Repeated fit) = true
+is_repeat other = false
+
+-- no value was found, or one that the parameter may not have
+abbrev pub is_unfit : LaunchField → Found → Bool
+is_unfit field Absent = true
+is_unfit field (Once value) = not (fits field value)
+is_unfit field (Repeated fit) = not fit
 
 -- what is found in pairs, for each parameter
 abbrev pub found_in : List Pair → LaunchField → Found

@@ -1,5 +1,5 @@
 // The parameters of a launch.
-ghost use Rattle.std.specs.Prelude.{◌≡◌, ◌<◌, bytes_eq};
+ghost use Rattle.std.specs.Prelude.{◌≡◌, ◌<◌, bytes_eq, slice_get, length};
 ghost use Rattle.std.specs.List.{find};
 ghost use Rattle.lti_launch.specs.Fields.{all_fields, name_of, place_of, fields_of_length};
 
@@ -43,8 +43,7 @@ pub enum LaunchField {
     ToolConsumerInstanceContactEmail,
 }
 
-/// All parameters, in order.
-pub const ALL_FIELDS: [LaunchField; 35] = [
+const ALL_FIELDS: [LaunchField; 35] = [
     LaunchField::LtiMessageType,
     LaunchField::LtiVersion,
     LaunchField::ResourceLinkId,
@@ -83,6 +82,7 @@ pub const ALL_FIELDS: [LaunchField; 35] = [
 ];
 
 // The parameters whose names have so many bytes.
+#[tactic(auto, unfolding(crate::specs::Fields::fields_of_length, crate::specs::Fields::all_fields, crate::specs::Fields::name_of))]
 fn fields_of_length(count: usize) -> &'static [LaunchField]
     ensures { result.now ≡ Rattle.lti_launch.specs.Fields.fields_of_length count }
 {
@@ -125,8 +125,23 @@ fn fields_of_length(count: usize) -> &'static [LaunchField]
     }
 }
 
+// Whether the parameter has the name.
+fn is_named(field: LaunchField, name: &str) -> bool
+    ensures { result ≡ bytes_eq (name_of field) name.now }
+{
+    field.name() == name
+}
+
+// The first of these that has the name.
+fn first_named(name: &str, fields: &[LaunchField]) -> Option<LaunchField>
+    ensures { result ≡ find (λ field. bytes_eq (name_of field) name.now) fields.now }
+{
+    fields.iter().copied().find(|field| is_named(*field, name))
+}
+
 impl LaunchField {
     /// The parameter's name, as `resource_link_id`.
+    #[tactic(auto, unfolding(crate::specs::Fields::name_of))]
     pub fn name(self) -> &'static str
         ensures { result.now ≡ name_of self }
     {
@@ -174,12 +189,23 @@ impl LaunchField {
     pub fn from_name(name: &str) -> Option<LaunchField>
         ensures { result ≡ find (λ field. bytes_eq (name_of field) name.now) all_fields }
     {
-        for field in fields_of_length(name.len()) {
-            if field.name() == name {
-                return Some(*field);
-            }
-        }
-        None
+        first_named(name, fields_of_length(name.len()))
+    }
+
+    /// All parameters, in the standard's order.
+    #[tactic(auto, unfolding(crate::specs::Fields::all_fields))]
+    pub fn all() -> &'static [LaunchField]
+        ensures all { result.now ≡ all_fields }
+        ensures count { length result.now ≡ 35 }
+    {
+        &ALL_FIELDS
+    }
+
+    // The parameter at a place of the order, which is counted from 0.
+    pub(crate) fn at(place: usize) -> Option<LaunchField>
+        ensures { result ≡ slice_get all_fields place }
+    {
+        LaunchField::all().get(place).copied()
     }
 
     // Where the parameter stands in the order, from 0.

@@ -1,13 +1,12 @@
 // What is found under the name of a parameter.
-ghost use Rattle.std.specs.Prelude.{◌≡◌, List, map};
-ghost use Rattle.std.specs.List.{find};
+ghost use Rattle.std.specs.Prelude.{◌≡◌, List, [], map, IfOk};
+ghost use Rattle.std.specs.List.{find, position};
 ghost use Rattle.lti_outside.specs.declared.pairs.Pair.{Pair};
 ghost use Rattle.lti_launch.specs.Fields.{all_fields};
 ghost use Rattle.lti_launch.specs.Faults as spec;
-ghost use Rattle.lti_launch.specs.Found.{found_in};
+ghost use Rattle.lti_launch.specs.Found.{found_in, is_repeat};
 
 use crate::LaunchField;
-use crate::fields::ALL_FIELDS;
 use lti_outside::{NoMemory, Text};
 use std::alloc::Global;
 
@@ -21,6 +20,7 @@ pub enum Found {
 }
 
 // Whether the parameter may have the value.
+#[tactic(auto, unfolding(crate::specs::Faults::launch_type, crate::specs::Faults::launch_version))]
 fn fits(field: LaunchField, value: &str) -> bool
     ensures { result ≡ spec.fits field value.now }
 {
@@ -33,11 +33,9 @@ fn fits(field: LaunchField, value: &str) -> bool
 }
 
 impl Found {
-    ghost use Rattle.std.specs.Prelude.{◌≡◌, ◌∷◌, ◌++◌, ℕ, List, [], ◌==◌, nat_lt, not, ◌||◌, length, OnOk};
+    ghost use Rattle.std.specs.Prelude.{◌≡◌, ◌∷◌, ◌++◌, ℕ, List, [], OnOk};
     ghost use Rattle.std.specs.Option.{option_map};
-    ghost use Rattle.std.specs.List.{list_any};
-    ghost use Rattle.lti_launch.specs.Faults as spec;
-    ghost use Rattle.lti_launch.specs.Found.{found_of, value_found};
+    ghost use Rattle.lti_launch.specs.Found.{found_of, value_found, is_repeat, is_unfit};
 
     /// Adds a value of the parameter.
     pub fn add(&mut self, alloc: Global, field: LaunchField, value: &str) -> Result<(), NoMemory>
@@ -71,8 +69,7 @@ impl Found {
 
     /// Whether the parameter is absent, or has a value that it may not have.
     pub fn is_wrong(&self, field: LaunchField) -> bool
-        ensures { (values : List (List ℕ)) → self.now ≡ found_of field values
-            → result ≡ (length values == 0 || list_any (λ value. not (spec.fits field value)) values) }
+        ensures { result ≡ is_unfit field self.now }
     {
         match self {
             Found::Absent => true,
@@ -83,8 +80,7 @@ impl Found {
 
     /// Whether the parameter stands twice.
     pub fn is_repeated(&self) -> bool
-        ensures { (field : LaunchField) (values : List (List ℕ)) → self.now ≡ found_of field values
-            → result ≡ nat_lt 1 (length values) }
+        ensures { result ≡ is_repeat self.now }
     {
         match self {
             Found::Repeated { .. } => true,
@@ -93,15 +89,30 @@ impl Found {
     }
 }
 
-/// The first parameter that stands twice.
+/// What is found in no pairs, for each parameter.
+pub fn nothing_found(alloc: Global) -> Result<Vec<Found>, NoMemory>
+    ensures { IfOk result (λ found. found.items ≡ map (found_in []) all_fields) }
+{
+    let fields = LaunchField::all();
+    let mut found = Vec::with_capacity(alloc, fields.len())?;
+    for _ in fields {
+        found.push(Found::Absent)?;
+    }
+    Ok(found)
+}
+
+// The first place where a parameter was found twice.
+fn place_of_repeated(found: &[Found]) -> Option<usize>
+    ensures { result ≡ position is_repeat found.now }
+{
+    found.iter().position(|found| found.is_repeated())
+}
+
+/// The first parameter that stands twice, by what was found for each.
 pub fn first_repeated(found: &[Found]) -> Option<LaunchField>
     ensures { (pairs : List Pair) → found.now ≡ map (found_in pairs) all_fields
         → result ≡ find (spec.is_repeated pairs) all_fields }
 {
-    for (place, found) in found.iter().enumerate() {
-        if found.is_repeated() {
-            return ALL_FIELDS.get(place).copied();
-        }
-    }
-    None
+    let place = place_of_repeated(found)?;
+    LaunchField::at(place)
 }

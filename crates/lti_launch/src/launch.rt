@@ -1,15 +1,9 @@
 // A launch.
-ghost use Rattle.std.specs.Prelude.{◌≡◌, None, IfOk, IfErr, OnOk, map};
-ghost use Rattle.std.specs.Option.{option_map};
-ghost use Rattle.lti_launch.specs.Faults.{fault_of, IsFaultOf};
-ghost use Rattle.lti_launch.specs.Launch.{launch_of, value_of, pairs_of};
-ghost use Rattle.lti_launch.specs.Laws.{Spells};
-
-use crate::fields::ALL_FIELDS;
 use crate::found::Found;
 use crate::sorted::Sorted;
+use crate::written::field_pairs;
 use crate::{LaunchFault, LaunchField};
-use lti_outside::{NoMemory, Pair, Pairs, Text};
+use lti_outside::{NoMemory, Pairs};
 use std::alloc::Global;
 use std::marker::Model;
 
@@ -43,8 +37,6 @@ impl Launch {
     ghost use Rattle.std.specs.Option.{option_map};
     ghost use Rattle.lti_launch.specs.Faults.{fault_of, IsFaultOf};
     ghost use Rattle.lti_launch.specs.Launch.{launch_of, value_of, pairs_of};
-    ghost use Rattle.lti_launch.specs.Fields.{all_fields};
-    ghost use Rattle.lti_launch.specs.Launch as spec;
     ghost use Rattle.lti_launch.specs.Laws.{Spells};
 
     /// The launch that the pairs of a message spell, or the first fault that they have. The pairs are gone over once.
@@ -91,30 +83,13 @@ impl Launch {
         &self.rest
     }
 
-    // The pairs of the parameters that have values, in order.
-    fn field_pairs(&self) -> Result<Pairs, NoMemory>
-        ensures { IfOk result (λ pairs. pairs ≡ spec.field_pairs all_fields self.now.fields) }
-    {
-        let alloc = *self.found.allocator();
-        let mut pairs = Pairs::new(alloc);
-        for (place, found) in self.found.iter().enumerate() {
-            if let Some(value) = found.value() {
-                pairs.push(Pair {
-                    name: Text::new(alloc, ALL_FIELDS[place].name())?,
-                    value: Text::new(alloc, value)?,
-                })?;
-            }
-        }
-        Ok(pairs)
-    }
-
     /// The pairs of the launch: the parameters that have values, in the standard's order, then the custom parameters, the
     /// extensions and the others. They are read as this launch.
     pub fn pairs(&self) -> Result<Pairs, NoMemory>
         ensures pairs { IfOk result (λ pairs. pairs ≡ pairs_of self.now) }
         ensures read_back { IfOk result (λ pairs. Spells pairs self.now) }
     {
-        let mut pairs = self.field_pairs()?;
+        let mut pairs = field_pairs(*self.found.allocator(), self.found.as_slice())?;
         pairs.append(self.custom.copy()?)?;
         pairs.append(self.ext.copy()?)?;
         pairs.append(self.rest.copy()?)?;

@@ -13,6 +13,7 @@ mod kinds;
 mod launch;
 mod laws;
 mod sorted;
+mod written;
 
 pub use custom_names::custom_name;
 pub use fault::LaunchFault;

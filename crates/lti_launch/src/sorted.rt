@@ -1,9 +1,8 @@
 // The pairs of a message, sorted by what their names are.
 ghost use Rattle.std.specs.Prelude.{◌≡◌, length};
 
-use crate::fields::ALL_FIELDS;
-use crate::found::{Found, first_repeated};
-use crate::kinds::{is_custom, is_ext, is_oauth};
+use crate::found::{Found, first_repeated, nothing_found};
+use crate::kinds::{field_of, is_custom, is_ext, is_oauth};
 use crate::{LaunchFault, LaunchField};
 use lti_outside::{NoMemory, Pair, Pairs};
 use std::alloc::Global;
@@ -33,15 +32,12 @@ impl Sorted {
     }
 
     // Nothing is found in no pairs.
+    #[tactic(auto, unfolding(crate::specs::Fields::all_fields, crate::specs::Parameters::values))]
     fn new(alloc: Global) -> Result<Sorted, NoMemory>
         ensures { IfOk result (λ sorted. AreSorted sorted []) }
     {
-        let mut found = Vec::with_capacity(alloc, ALL_FIELDS.len())?;
-        for _ in ALL_FIELDS {
-            found.push(Found::Absent)?;
-        }
         Ok(Sorted {
-            found,
+            found: nothing_found(alloc)?,
             custom: Pairs::new(alloc),
             ext: Pairs::new(alloc),
             rest: Pairs::new(alloc),
@@ -56,7 +52,7 @@ impl Sorted {
             self.custom.push(pair.copy()?)?;
         } else if is_ext(pair) {
             self.ext.push(pair.copy()?)?;
-        } else if let Some(field) = LaunchField::from_name(pair.name.get()) {
+        } else if let Some(field) = field_of(pair) {
             self.found[field.place()].add(alloc, field, pair.value.get())?;
         } else if !is_oauth(pair) {
             self.rest.push(pair.copy()?)?;
