@@ -1,16 +1,15 @@
 -- What a launch writes is read as the same launch.
-use Rattle.std.proofs.Common.{◌≡◌, ℕ, ◌==◌, nat_lt, nat_eq, suc, Bool, true, false, not, ◌||◌, ◌&&◌, cond, List, [], ◌∷◌, ◌++◌, length, map, bytes_eq, codes, append-nil, append_assoc, refl, sym, ap, ◌∙◌, subst, Option, Some, None, arith}
-use Rattle.std.specs.List.{find, filter, list_any, list_all, starts_with}
-use Rattle.std.proofs.lemmas.Bool.Decides.{nat_tests}
+use Rattle.std.proofs.Common.{◌≡◌, ℕ, ◌==◌, nat_lt, Bool, true, false, not, ◌||◌, ◌&&◌, List, [], ◌∷◌, ◌++◌, length, map, bytes_eq, append-nil, refl, sym, ap, ◌∙◌, Option, Some, None, arith}
+use Rattle.std.specs.List.{find, filter, list_any, list_all}
 use Rattle.std.proofs.lemmas.List.Elements.{filter-append}
 use Rattle.std.proofs.lemmas.Slice.Eq.{bytes_eq-Decides}
 use Rattle.lti_outside.specs.declared.pairs.Pair.{Pair}
 use Rattle.lti_outside.proofs.BoolLemmas.{and_split}
 use Rattle.lti_launch.specs.declared.fields.LaunchField.{LaunchField}
 use Rattle.lti_launch.specs.declared.fields.LaunchField.TheVariants.{LtiMessageType, LtiVersion, ResourceLinkId}
-use Rattle.lti_launch.specs.Fields.{all_fields, name_of, place_of}
-use Rattle.lti_launch.specs.Parameters.{values, only, value_in, is_named, is_field, has_prefix, is_custom, is_ext, is_oauth, is_rest}
-use Rattle.lti_launch.specs.Faults.{fits, is_wrong, is_repeated, fault_of}
+use Rattle.lti_launch.specs.Fields.{all_fields, name_of}
+use Rattle.lti_launch.specs.Parameters.{values, only, value_in, is_named, is_field, is_custom, is_ext, is_oauth, is_rest}
+use Rattle.lti_launch.specs.Faults.{fits, is_wrong, is_repeated}
 use Rattle.lti_launch.specs.Launch.{LaunchValue, launch_of, value_of, field_pairs, pairs_of, IsRight, IsLaunch}
 use Rattle.lti_launch.specs.Laws.{Spells}
 use Rattle.lti_launch.proofs.NameLemmas.{is_plain, one_of_name}
@@ -77,9 +76,9 @@ module _ (tail : List Pair) (free : (field : LaunchField) → values field tail 
       let behind = field_pairs fields vs ++ tail in
       let first = first_named field (pair_of field v) behind (own_name field) ∙ ap (λ (others : List (List ℕ)). v ∷ others) (nothing_before field fields vs none) in
       let others =
-            map_kept (meets field) (λ other. values other behind) (λ other. values other (pair_of field v ∷ behind))
-              (λ other away. first_other other (pair_of field v) behind (or_none (bytes_eq (name_of field) (name_of other)) (bytes_eq (name_of other) (name_of field)) away).1) fields none
-            ∙ values_listed fields vs parts.1 (omega (arith, long)) in
+      map_kept (meets field) (λ other. values other behind) (λ other. values other (pair_of field v ∷ behind))
+      (λ other away. first_other other (pair_of field v) behind (or_none (bytes_eq (name_of field) (name_of other)) (bytes_eq (name_of other) (name_of field)) away).1) fields none
+      ∙ values_listed fields vs parts.1 (omega (arith, long)) in
       λ i. first i ∷ others i
 
 only_listed : (vs : List (Option (List ℕ))) → map only (map listed vs) ≡ vs
@@ -190,8 +189,8 @@ module _ (launch : LaunchValue) (is : IsLaunch launch) where
   tail_free field =
       values-append field (launch.custom ++ launch.ext) launch.rest
       ∙ (λ i. (values-append field launch.custom launch.ext
-          ∙ (λ j. values_none is_custom custom_no_field field launch.custom is.custom j ++ values_none is_ext ext_no_field field launch.ext is.ext j)) i
-          ++ values_none is_rest (λ pair other. (rest_other pair other).field) field launch.rest is.rest i)
+      ∙ (λ j. values_none is_custom custom_no_field field launch.custom is.custom j ++ values_none is_ext ext_no_field field launch.ext is.ext j)) i
+      ++ values_none is_rest (λ pair other. (rest_other pair other).field) field launch.rest is.rest i)
 
   values_back : map (λ field. values field (pairs_of launch)) all_fields ≡ map listed launch.fields
   values_back =
@@ -205,22 +204,22 @@ module _ (launch : LaunchValue) (is : IsLaunch launch) where
   custom_back =
       filter_four is_custom written launch.custom launch.ext launch.rest
       ∙ (λ i. ((filter_fields is_custom field_no_custom all_fields launch.fields i ++ filter_all is_custom launch.custom is.custom i)
-          ++ filter_none is_custom is_ext ext_no_custom launch.ext is.ext i) ++ filter_none is_custom is_rest (λ pair other. (rest_other pair other).custom) launch.rest is.rest i)
+      ++ filter_none is_custom is_ext ext_no_custom launch.ext is.ext i) ++ filter_none is_custom is_rest (λ pair other. (rest_other pair other).custom) launch.rest is.rest i)
       ∙ append-nil (launch.custom ++ []) ∙ append-nil launch.custom
 
   ext_back : filter is_ext (pairs_of launch) ≡ launch.ext
   ext_back =
       filter_four is_ext written launch.custom launch.ext launch.rest
       ∙ (λ i. ((filter_fields is_ext field_no_ext all_fields launch.fields i ++ filter_none is_ext is_custom custom_no_ext launch.custom is.custom i)
-          ++ filter_all is_ext launch.ext is.ext i) ++ filter_none is_ext is_rest (λ pair other. (rest_other pair other).ext) launch.rest is.rest i)
+      ++ filter_all is_ext launch.ext is.ext i) ++ filter_none is_ext is_rest (λ pair other. (rest_other pair other).ext) launch.rest is.rest i)
       ∙ append-nil launch.ext
 
   rest_back : filter is_rest (pairs_of launch) ≡ launch.rest
   rest_back =
       filter_four is_rest written launch.custom launch.ext launch.rest
       ∙ (λ i. ((filter_fields is_rest (λ field v. field_no_rest (pair_of field v) (a_field field v)) all_fields launch.fields i
-          ++ filter_none is_rest is_custom custom_no_rest launch.custom is.custom i)
-          ++ filter_none is_rest is_ext ext_no_rest launch.ext is.ext i) ++ filter_all is_rest launch.rest is.rest i)
+      ++ filter_none is_rest is_custom custom_no_rest launch.custom is.custom i)
+      ++ filter_none is_rest is_ext ext_no_rest launch.ext is.ext i) ++ filter_all is_rest launch.rest is.rest i)
 
   launch_back : launch_of (pairs_of launch) ≡ launch
   launch_back = λ i. record { fields = fields_back i; custom = custom_back i; ext = ext_back i; rest = rest_back i }

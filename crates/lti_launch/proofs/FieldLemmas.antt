@@ -1,10 +1,9 @@
 -- The parameters by their names and their places.
-use Rattle.std.proofs.Common.{◌≡◌, ℕ, Bool, true, false, cond, ◌==◌, List, [], ◌∷◌, length, bytes_eq, refl, sym, ap, ◌∙◌, Option, Some, arith}
+use Rattle.std.proofs.Common.{◌≡◌, ℕ, Bool, true, false, cond, ◌==◌, List, [], ◌∷◌, length, bytes_eq, refl, ap, Some, arith}
 use Rattle.std.specs.List.{find, filter}
 use Rattle.std.proofs.lemmas.Bool.Decides.{nat_tests}
 use Rattle.std.proofs.lemmas.Slice.Eq.{bytes_eq-Decides}
-use Rattle.lti_launch.specs.declared.fields.LaunchField.{LaunchField}
-use Rattle.lti_launch.specs.Fields.{all_fields, name_of, place_of, fields_of_length}
+use Rattle.lti_launch.specs.Fields.{all_fields, name_of, fields_of_length}
 
 module _ {X : Type 0} (p q : X → Bool) (only : (x : X) → p x ≡ true → q x ≡ true) where
   one_more : (x : X) (xs kept : List X) (b c : Bool) → p x ≡ b → q x ≡ c → find p kept ≡ find p xs → find p (cond (q x) (x ∷ kept) kept) ≡ cond (p x) (Some x) (find p xs)

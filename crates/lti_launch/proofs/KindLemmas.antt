@@ -1,7 +1,7 @@
 -- A pair is of one kind.
-use Rattle.std.proofs.Common.{◌≡◌, ℕ, nat_eq, Bool, true, false, not, ◌||◌, ◌&&◌, List, [], ◌∷◌, codes, bytes_eq, refl, sym, ap, ◌∙◌, arith, Option, Some, None}
+use Rattle.std.proofs.Common.{◌≡◌, ℕ, nat_eq, Bool, true, false, not, ◌||◌, ◌&&◌, List, [], ◌∷◌, codes, bytes_eq, refl, sym, ap, arith, Option, Some, None}
 use Rattle.std.specs.Prelude.{MatchOption}
-use Rattle.std.specs.List.{find, list_any, starts_with}
+use Rattle.std.specs.List.{find, starts_with}
 use Rattle.std.proofs.lemmas.Bool.Decides.{nat_tests}
 use Rattle.std.proofs.lemmas.Slice.Eq.{bytes_eq-Decides}
 use Rattle.lti_outside.specs.declared.pairs.Pair.{Pair}

@@ -1,5 +1,5 @@
 -- What was sorted, where the pairs have no fault, is the launch that they spell.
-use Rattle.std.proofs.Common.{◌≡◌, ℕ, ◌==◌, nat_lt, Bool, true, false, not, ◌||◌, ◌&&◌, cond, List, [], ◌∷◌, length, map, bytes_eq, refl, sym, ap, ◌∙◌, Option, Some, None, arith}
+use Rattle.std.proofs.Common.{◌≡◌, ℕ, ◌==◌, nat_lt, Bool, true, false, not, ◌||◌, cond, List, [], ◌∷◌, length, map, bytes_eq, refl, sym, ap, ◌∙◌, Option, Some, None, arith}
 use Rattle.std.specs.Option.{option_map}
 use Rattle.std.specs.List.{find, filter, list_any, list_all}
 use Rattle.std.proofs.lemmas.Bool.Decides.{nat_tests}
@@ -7,7 +7,6 @@ use Rattle.std.proofs.lemmas.List.{length-map}
 use Rattle.lti_outside.specs.declared.pairs.Pair.{Pair}
 use Rattle.lti_launch.specs.declared.fields.LaunchField.{LaunchField}
 use Rattle.lti_launch.specs.declared.fields.LaunchField.TheVariants.{LtiMessageType, LtiVersion, ResourceLinkId}
-use Rattle.lti_launch.specs.declared.fault.LaunchFault.{LaunchFault}
 use Rattle.lti_launch.specs.declared.fault.LaunchFault.TheVariants.{WrongType, WrongVersion, Missing, Repeated}
 use Rattle.lti_launch.specs.declared.sorted.Sorted.{Sorted}
 use Rattle.lti_launch.specs.Fields.{all_fields, name_of, place_of}
@@ -76,7 +75,7 @@ fails_alone s t (y ∷ xs) x one none = by (s y) (t y) refl one none (fails_alon
 pub stands_once : (pairs : List Pair) (field : LaunchField) → AreFaultless pairs → is_repeated pairs field ≡ false
 stands_once pairs field are =
     fails_alone (λ other. bytes_eq (name_of other) (name_of field)) (is_repeated pairs) all_fields field (one_of_name field)
-      (find_nowhere (is_repeated pairs) all_fields are.single)
+    (find_nowhere (is_repeated pairs) all_fields are.single)
 
 -- a parameter that isn't wrong and stands once has a value that it may have
 right : (pairs : List Pair) (field : LaunchField) → is_wrong field pairs ≡ false → is_repeated pairs field ≡ false

@@ -7,3 +7,4 @@ pub mod KindLemmas
 pub mod SortedLemmas
 pub mod LaunchLemmas
 pub mod BackLemmas
+pub mod WrittenLemmas

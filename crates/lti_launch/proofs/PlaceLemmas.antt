@@ -1,5 +1,5 @@
 -- Lists in which one element passes a test.
-use Rattle.std.proofs.Common.{◌≡◌, ℕ, suc, ◌+◌, arith, Bool, true, false, not, ◌||◌, cond, List, [], ◌∷◌, ◌++◌, length, map, refl, sym, ap, ◌∙◌, Option, Some, None, slice_index_or, slice_set}
+use Rattle.std.proofs.Common.{◌≡◌, ℕ, suc, ◌+◌, arith, Bool, true, false, not, ◌||◌, cond, List, [], ◌∷◌, map, refl, sym, ap, ◌∙◌, Some, None, slice_index_or, slice_set}
 use Rattle.std.specs.List.{find, filter, position_or_len, list_any}
 
 set_next : {Y : Type 0} (y z : Y) (ys : List Y) (n : ℕ) → slice_set (y ∷ ys) (1 + n) z ≡ y ∷ slice_set ys n z

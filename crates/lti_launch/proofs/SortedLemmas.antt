@@ -1,15 +1,14 @@
 -- One more pair, sorted.
-use Rattle.std.proofs.Common.{◌≡◌, ℕ, Bool, true, false, cond, List, [], ◌∷◌, ◌++◌, map, bytes_eq, append-nil, refl, sym, ap, ◌∙◌, subst, Some, slice_set, slice_index_or}
-use Rattle.std.specs.List.{find, filter}
+use Rattle.std.proofs.Common.{◌≡◌, ℕ, Bool, true, false, List, [], ◌∷◌, ◌++◌, map, bytes_eq, append-nil, refl, sym, ap, ◌∙◌, subst, slice_set, slice_index_or}
+use Rattle.std.specs.List.{filter}
 use Rattle.std.proofs.lemmas.List.Elements.{filter-append}
 use Rattle.std.proofs.lemmas.Slice.Eq.{bytes_eq-Decides}
 use Rattle.lti_outside.specs.declared.pairs.Pair.{Pair}
 use Rattle.lti_launch.specs.declared.fields.LaunchField.{LaunchField}
 use Rattle.lti_launch.specs.declared.found.Found.{Found}
-use Rattle.lti_launch.specs.declared.sorted.Sorted.{Sorted}
 use Rattle.lti_launch.specs.Fields.{all_fields, name_of, place_of}
-use Rattle.lti_launch.specs.Parameters.{values, is_named, is_field, is_custom, is_ext, is_rest}
-use Rattle.lti_launch.specs.Found.{found_of, found_in, AreSorted}
+use Rattle.lti_launch.specs.Parameters.{values, is_named, is_field}
+use Rattle.lti_launch.specs.Found.{found_of, found_in}
 use Rattle.lti_launch.proofs.NameLemmas.{one_of_name}
 use Rattle.lti_launch.proofs.PlaceLemmas.{map_kept, map_set, at_place}
 use Rattle.lti_launch.proofs.ValueLemmas.{one_named, one_other}
@@ -39,7 +38,7 @@ module _ (pairs : List Pair) (pair : Pair) where
   found_set field is =
       let same : name_of field ≡ pair.name = (bytes_eq-Decides (name_of field) pair.name).0 is in
       map_set (λ f. bytes_eq (name_of f) (name_of field)) (found_in pairs) (found_in (pairs ++ pair ∷ []))
-        (λ f other. ap (found_of f) (one_other f pairs pair (subst (λ (name : List ℕ). bytes_eq (name_of f) name ≡ false) same other))) all_fields field (one_of_name field)
+      (λ f other. ap (found_of f) (one_other f pairs pair (subst (λ (name : List ℕ). bytes_eq (name_of f) name ≡ false) same other))) all_fields field (one_of_name field)
 
   -- a pair that passes is added to those that pass
   pub filter_pushed : (t : Pair → Bool) (old new : List Pair) (copy : Pair) → t pair ≡ true → copy ≡ pair → old ≡ filter t pairs → new ≡ old ++ copy ∷ [] → new ≡ filter t (pairs ++ pair ∷ [])
@@ -54,5 +53,5 @@ module _ (pairs : List Pair) (pair : Pair) where
   found_pushed field place value old new before after named at is sorted here set says =
       let stood : before ≡ found_in pairs field = here ∙ (λ i. slice_index_or (sorted i) (at i) before) ∙ found_place pairs field before in
       let stands : after ≡ found_in (pairs ++ pair ∷ []) field =
-            says (values field pairs) stood ∙ ap (λ (v : List ℕ). found_of field (values field pairs ++ v ∷ [])) is ∙ ap (found_of field) (sym (one_named field pairs pair named)) in
+      says (values field pairs) stood ∙ ap (λ (v : List ℕ). found_of field (values field pairs ++ v ∷ [])) is ∙ ap (found_of field) (sym (one_named field pairs pair named)) in
       set ∙ (λ i. slice_set (sorted i) (at i) (stands i)) ∙ sym (found_set field named)

@@ -1,5 +1,5 @@
 -- Names of custom parameters (LTI 1.1.1, section 3 and appendix B).
-use Rattle.std.specs.Prelude.{ℕ, ◌+◌, Bool, ◌||◌, ◌&&◌, nat_le, List, ◌++◌, map, codes, if◌then◌else◌}
+use Rattle.std.specs.Prelude.{ℕ, ◌+◌, ◌||◌, ◌&&◌, nat_le, List, ◌++◌, map, codes, if◌then◌else◌}
 use Rattle.std.specs.Str.{chars}
 
 -- the character in a custom name: an ASCII letter in lower case, a digit, or `_` for any other character

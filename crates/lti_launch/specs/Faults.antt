@@ -1,5 +1,5 @@
 -- Why pairs are no launch (LTI 1.1.1, section 3; the order in which it is said is this project's own).
-use Rattle.std.specs.Prelude.{◌≡◌, ℕ, Bool, true, not, ◌||◌, ◌==◌, nat_lt, List, length, codes, bytes_eq, if◌then◌else◌, Option, None, Some, ⊤}
+use Rattle.std.specs.Prelude.{◌≡◌, ℕ, Bool, true, not, ◌||◌, ◌==◌, nat_lt, List, length, codes, bytes_eq, if◌then◌else◌, Option, Some, ⊤}
 use Rattle.std.specs.Option.{option_map}
 use Rattle.std.specs.List.{list_any, find}
 use Rattle.lti_outside.specs.declared.pairs.Pair.{Pair}

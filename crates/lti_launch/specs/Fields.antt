@@ -1,5 +1,5 @@
 -- The parameters of a launch (LTI 1.1.1, section 3), in the standard's order, and their names.
-use Rattle.std.specs.Prelude.{◌≡◌, ℕ, ◌==◌, not, List, [], ◌∷◌, length, filter, codes, bytes_eq}
+use Rattle.std.specs.Prelude.{ℕ, ◌==◌, List, [], ◌∷◌, length, filter, codes, bytes_eq}
 use Rattle.std.specs.List.{position_or_len}
 use Rattle.lti_launch.specs.declared.fields.LaunchField.{LaunchField}
 use Rattle.lti_launch.specs.declared.fields.LaunchField.TheVariants.{LtiMessageType, LtiVersion, ResourceLinkId, ResourceLinkTitle, ResourceLinkDescription, UserId, UserImage, Roles, RoleScopeMentor, ContextId, ContextType, ContextTitle, ContextLabel, LisPersonNameGiven, LisPersonNameFamily, LisPersonNameFull, LisPersonContactEmailPrimary, LisPersonSourcedid, LisCourseOfferingSourcedid, LisCourseSectionSourcedid, LisResultSourcedid, LisOutcomeServiceUrl, LaunchPresentationLocale, LaunchPresentationDocumentTarget, LaunchPresentationCssUrl, LaunchPresentationWidth, LaunchPresentationHeight, LaunchPresentationReturnUrl, ToolConsumerInfoProductFamilyCode, ToolConsumerInfoVersion, ToolConsumerInstanceGuid, ToolConsumerInstanceName, ToolConsumerInstanceDescription, ToolConsumerInstanceUrl, ToolConsumerInstanceContactEmail}

@@ -1,5 +1,5 @@
 -- A launch, its reading and its writing (LTI 1.1.1, section 3).
-use Rattle.std.specs.Prelude.{◌≡◌, ℕ, true, List, [], ◌∷◌, ◌++◌, length, map, filter, Option, None, Some, IfSome}
+use Rattle.std.specs.Prelude.{◌≡◌, ℕ, true, List, [], ◌∷◌, ◌++◌, length, map, filter, Option, None, Some}
 use Rattle.std.specs.List.{slice_index_or, list_all}
 use Rattle.lti_outside.specs.declared.pairs.Pair.{Pair}
 use Rattle.lti_launch.specs.declared.fields.LaunchField.{LaunchField}

@@ -1,6 +1,6 @@
 -- What stands in the pairs of a launch under the names of its parameters (LTI 1.1.1, section 3), and the pairs of other
 -- names.
-use Rattle.std.specs.Prelude.{◌≡◌, ℕ, Bool, not, ◌||◌, nat_eq, List, [], ◌∷◌, length, map, filter, codes, bytes_eq, Option, None, Some}
+use Rattle.std.specs.Prelude.{ℕ, Bool, not, ◌||◌, nat_eq, List, [], ◌∷◌, map, filter, codes, bytes_eq, Option, None, Some}
 use Rattle.std.specs.List.{list_any, starts_with}
 use Rattle.lti_outside.specs.declared.pairs.Pair.{Pair}
 use Rattle.lti_launch.specs.declared.fields.LaunchField.{LaunchField}

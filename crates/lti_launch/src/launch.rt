@@ -1,7 +1,7 @@
 // A launch.
 use crate::found::Found;
 use crate::sorted::Sorted;
-use crate::written::field_pairs;
+use crate::writing::written;
 use crate::{LaunchFault, LaunchField};
 use lti_outside::{NoMemory, Pairs};
 use std::alloc::Global;
@@ -89,10 +89,9 @@ impl Launch {
         ensures pairs { IfOk result (λ pairs. pairs ≡ pairs_of self.now) }
         ensures read_back { IfOk result (λ pairs. Spells pairs self.now) }
     {
-        let mut pairs = field_pairs(*self.found.allocator(), self.found.as_slice())?;
-        pairs.append(self.custom.copy()?)?;
-        pairs.append(self.ext.copy()?)?;
-        pairs.append(self.rest.copy()?)?;
+        let alloc = *self.found.allocator();
+        let found = self.found.as_slice();
+        let pairs = written(alloc, found, &self.custom, &self.ext, &self.rest)?;
         Ok(pairs)
     }
 }

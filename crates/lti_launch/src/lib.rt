@@ -13,7 +13,7 @@ mod kinds;
 mod launch;
 mod laws;
 mod sorted;
-mod written;
+mod writing;
 
 pub use custom_names::custom_name;
 pub use fault::LaunchFault;

@@ -1,7 +1,5 @@
-use Rattle.std.proofs.Common.{◌≡◌, true, false, refl, sym, ap, ◌∙◌, ◌∷◌, [], ◌++◌, slice_set}
-use Rattle.lti_launch.specs.Fields.{all_fields, name_of, place_of}
-use Rattle.lti_launch.specs.Parameters.{values, is_field, is_custom, is_ext, is_oauth, is_rest}
-use Rattle.lti_launch.specs.Found.{AreSorted, found_in, found_of}
+use Rattle.std.proofs.Common.{◌≡◌, true, false, refl, sym, ◌∙◌}
+use Rattle.lti_launch.specs.Parameters.{is_field, is_custom, is_ext, is_oauth, is_rest}
 use Rattle.lti_launch.proofs.KindLemmas.{custom_no_ext, custom_no_field, ext_no_field, field_no_rest, custom_no_rest, ext_no_rest, oauth_no_rest, other_rest}
 use Rattle.lti_launch.proofs.SortedLemmas.{filter_kept, filter_pushed, found_kept, found_pushed}
 use Rattle.lti_launch.proofs.sorted.Sorted.take.Goals as goal

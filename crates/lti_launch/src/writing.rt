@@ -1,4 +1,4 @@
-// The parameters of a launch as pairs.
+// A launch as pairs.
 ghost use Rattle.std.specs.Prelude.{◌≡◌, ◌∷◌, ◌++◌, [], length, map, IfOk, OnOk};
 ghost use Rattle.lti_launch.specs.Fields.{all_fields};
 ghost use Rattle.lti_launch.specs.Found.{value_found};
@@ -28,8 +28,8 @@ fn push_field(
     Ok(())
 }
 
-/// The parameters that have values, in order, with these.
-pub fn field_pairs(alloc: Global, found: &[Found]) -> Result<Pairs, NoMemory>
+// The parameters that have values, in order, with these.
+fn field_pairs(alloc: Global, found: &[Found]) -> Result<Pairs, NoMemory>
     requires { length found.now ≡ 35 }
     ensures { IfOk result (λ pairs. pairs ≡ spec.field_pairs all_fields (map value_found found.now)) }
 {
@@ -38,5 +38,23 @@ pub fn field_pairs(alloc: Global, found: &[Found]) -> Result<Pairs, NoMemory>
     for (place, found) in found.iter().enumerate() {
         push_field(&mut pairs, alloc, fields[place], found)?;
     }
+    Ok(pairs)
+}
+
+/// The parameters that have values, in order, then the custom parameters, the extensions and the others.
+pub fn written(
+    alloc: Global,
+    found: &[Found],
+    custom: &Pairs,
+    ext: &Pairs,
+    rest: &Pairs,
+) -> Result<Pairs, NoMemory>
+    requires { length found.now ≡ 35 }
+    ensures { IfOk result (λ pairs. pairs ≡ spec.pairs_of (record { fields = map value_found found.now; custom = custom.now; ext = ext.now; rest = rest.now })) }
+{
+    let mut pairs = field_pairs(alloc, found)?;
+    pairs.append(custom.copy()?)?;
+    pairs.append(ext.copy()?)?;
+    pairs.append(rest.copy()?)?;
     Ok(pairs)
 }
