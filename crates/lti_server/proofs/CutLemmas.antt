@@ -169,22 +169,22 @@ not_both o x one other = let e = sym one ∙ other in cc
 
 -- a refusal has one answer
 refused_unique : (terms : Terms) (q : RequestParts) (a b : ResponseParts) → IsRefused terms q a → IsRefused terms q b → a ≡ b
-refused_unique terms q a b (inl (inl x)) (inl (inl y)) = x.answer_is ∙ ap (λ r. answer_to q r) (same_some _ x.refusal y.refusal x.refused y.refused) ∙ sym y.answer_is
-refused_unique terms q a b (inl (inl x)) (inl (inr y)) = absurd (not_both _ x.refusal x.refused y.routed)
-refused_unique terms q a b (inl (inl x)) (inr y) = absurd (not_both _ x.refusal x.refused y.routed)
-refused_unique terms q a b (inl (inr x)) (inl (inl y)) = absurd (not_both _ y.refusal y.refused x.routed)
-refused_unique terms q a b (inr x) (inl (inl y)) = absurd (not_both _ y.refusal y.refused x.routed)
-refused_unique terms q a b (inl (inr x)) (inl (inr y)) =
+refused_unique terms q a b (inl x) (inl y) = x.answer_is ∙ ap (λ r. answer_to q r) (same_some _ x.refusal y.refusal x.refused y.refused) ∙ sym y.answer_is
+refused_unique terms q a b (inl x) (inr (inl y)) = absurd (not_both _ x.refusal x.refused y.routed)
+refused_unique terms q a b (inl x) (inr (inr y)) = absurd (not_both _ x.refusal x.refused y.routed)
+refused_unique terms q a b (inr (inl x)) (inl y) = absurd (not_both _ y.refusal y.refused x.routed)
+refused_unique terms q a b (inr (inr x)) (inl y) = absurd (not_both _ y.refusal y.refused x.routed)
+refused_unique terms q a b (inr (inl x)) (inr (inl y)) =
     x.answer_is ∙ ap auth_answer ((auth.one_answer terms q).one x.fault y.fault x.is_fault y.is_fault x.known y.known) ∙ sym y.answer_is
-refused_unique terms q a b (inl (inr x)) (inr y) = absurd (x.known ((auth.one_answer terms q).none x.fault y.well_signed x.is_fault))
-refused_unique terms q a b (inr x) (inl (inr y)) = absurd (y.known ((auth.one_answer terms q).none y.fault x.well_signed y.is_fault))
-refused_unique terms q a b (inr x) (inr y) = x.answer_is ∙ ap launch_answer (same_some _ x.fault y.fault x.is_fault y.is_fault) ∙ sym y.answer_is
+refused_unique terms q a b (inr (inl x)) (inr (inr y)) = absurd (x.known ((auth.one_answer terms q).none x.fault y.well_signed x.is_fault))
+refused_unique terms q a b (inr (inr x)) (inr (inl y)) = absurd (y.known ((auth.one_answer terms q).none y.fault x.well_signed y.is_fault))
+refused_unique terms q a b (inr (inr x)) (inr (inr y)) = x.answer_is ∙ ap launch_answer (same_some _ x.fault y.fault x.is_fault y.is_fault) ∙ sym y.answer_is
 
 -- no request is refused and asked
 refused_not_asked : (terms : Terms) (q : RequestParts) (a : ResponseParts) (signed : Signed) (action : Action) → IsRefused terms q a → IsAsked terms q signed action → ⊥
-refused_not_asked terms q a signed action (inl (inl x)) asked = not_both _ x.refusal x.refused asked.routed
-refused_not_asked terms q a signed action (inl (inr x)) asked = x.known ((auth.one_answer terms q).none x.fault asked.well_signed x.is_fault)
-refused_not_asked terms q a signed action (inr x) asked = not_both _ x.fault x.is_fault asked.call.faultless
+refused_not_asked terms q a signed action (inl x) asked = not_both _ x.refusal x.refused asked.routed
+refused_not_asked terms q a signed action (inr (inl x)) asked = x.known ((auth.one_answer terms q).none x.fault asked.well_signed x.is_fault)
+refused_not_asked terms q a signed action (inr (inr x)) asked = not_both _ x.fault x.is_fault asked.call.faultless
 
 abbrev first_reply : List Reply → Reply → Reply
 first_reply [] other = other

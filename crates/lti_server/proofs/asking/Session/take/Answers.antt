@@ -71,7 +71,7 @@ returns-in-Ok-reserve_answer-clause-talk g c =
               bytes = append-nil _;
               signed = signed;
               asked = before.0;
-              call_is = record { caller = refl; moment = c.now.ensures.told; key = refl; timestamp = refl; nonce = refl; action = refl };
+              call_is = record { caller = refl; moment = c.now.ensures.told; key = refl; timestamp = refl; nonce = refl };
               sound = record { moment = c.now.ensures.bound; key = takes.key; timestamp = takes.timestamp; nonce = takes.nonce };
               pending = ap Some (c.in-Ok-reserve_answer.ensures ∙ c.ends_with-ends.ensures.ends);
               goes_on = over;
