@@ -1,0 +1,6 @@
+use crate::RoleSet;
+
+#[test]
+fn reads(rt: HostRuntime) {
+    assert!(rt; true);
+}
