@@ -1,0 +1,5 @@
+mod PrefixLemmas
+mod TrimLemmas
+mod ElementLemmas
+mod PrintedLemmas
+mod BackLemmas
