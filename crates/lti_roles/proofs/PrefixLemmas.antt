@@ -10,6 +10,7 @@ pub behind_is : (prefix element : List ℕ) (r : Option (Bor (List ℕ)))
     → MatchOption r (FindsTextPrefix prefix element None) (λ x. StripsPrefix (FindsTextPrefix prefix) element x.now)
     → MatchOption r (begins prefix element ≡ false) (λ rest. (begins prefix element ≡ true) × (rest.now ≡ drop (length prefix) element))
 behind_is prefix element None lacks = sym (starts_text false prefix element lacks)
-behind_is prefix element (Some rest) (len, found, is, fits) =
-    (sym (starts_text true prefix element (len, found, subst (IsCharBoundary element) (sym found.0) found.2)),
-     is ∙ ap (λ n. drop n element) found.0)
+behind_is prefix element (Some rest) (len, found, is, fits) = (
+  sym (starts_text true prefix element (len, found, subst (IsCharBoundary element) (sym found.0) found.2)),
+  is ∙ ap (λ n. drop n element) found.0,
+)

@@ -31,7 +31,8 @@ pub printed_step : (roles : List Role) (i : ℕ) (role : Role) (text before prin
     → text ≡ printed_of (take i roles) → before ≡ separator (take i roles) → printed ≡ (text ++ before) ++ spelled_of role
     → (printed ≡ printed_of (take (i + 1) roles)) × (codes "," ≡ separator (take (i + 1) roles))
 printed_step roles i role text before printed inside is so_far mark grown =
-    let longer : take (i + 1) roles ≡ take i roles ++ role ∷ [] = take_more roles i role inside ∙ ap (λ r. take i roles ++ r ∷ []) (sym is) in
-    (grown ∙ ap (λ l. (l ++ before) ++ spelled_of role) so_far ∙ ap (λ l. (printed_of (take i roles) ++ l) ++ spelled_of role) mark
-     ∙ sym (printed_more (take i roles) role) ∙ ap printed_of (sym longer),
-     separator_more (take i roles) role ∙ ap separator (sym longer))
+    let longer : take (i + 1) roles ≡ take i roles ++ role ∷ [] = take_more roles i role inside ∙ ap (λ r. take i roles ++ r ∷ []) (sym is) in (
+      grown ∙ ap (λ l. (l ++ before) ++ spelled_of role) so_far ∙ ap (λ l. (printed_of (take i roles) ++ l) ++ spelled_of role) mark
+          ∙ sym (printed_more (take i roles) role) ∙ ap printed_of (sym longer),
+      separator_more (take i roles) role ∙ ap separator (sym longer),
+    )

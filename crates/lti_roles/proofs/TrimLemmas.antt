@@ -54,7 +54,7 @@ end_stays r [] is o found empty = ap (λ l. reverse (trim_front l)) is ∙ ap re
 end_stays r (b ∷ back) is None lacks empty =
     let whole : r ≡ reverse back ++ b ∷ [] = sym (reverse-reverse r) ∙ ap reverse is ∙ reverse-append (b ∷ []) back in
     let other : (b == 32) ≡ false = false_from_ne_true (b == 32) (λ same. lacks (reverse back)
-        (whole ∙ ap (λ c. reverse back ++ c ∷ []) (eqb-true b 32 same) ∙ ap (λ end. reverse back ++ end) (sym (encode_ascii 32 (lit< tt))))) in
+    (whole ∙ ap (λ c. reverse back ++ c ∷ []) (eqb-true b 32 same) ∙ ap (λ end. reverse back ++ end) (sym (encode_ascii 32 (lit< tt))))) in
     ap (λ l. reverse (trim_front l)) is ∙ ap reverse (cond-false (b == 32) (trim_front back) (b ∷ back) other ∙ sym is) ∙ reverse-reverse r
 end_stays r (b ∷ back) is (Some n) found empty = let len : n ≡ 1 = found.0 in absurd (omega arith)
 
