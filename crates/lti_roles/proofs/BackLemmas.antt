@@ -1,13 +1,13 @@
 -- Reading what was printed.
-use Rattle.std.proofs.Common.{◌≡◌, ℕ, ◌==◌, Bool, true, false, cond, List, [], ◌∷◌, ◌++◌, map, reverse, codes, Option, None, Some, refl, sym, ap, ◌∙◌, subst}
+use Rattle.std.proofs.Common.{◌≡◌, ℕ, ◌==◌, Bool, true, false, cond, List, [], ◌∷◌, ◌++◌, map, reverse, Option, None, Some, refl, sym, ap, ◌∙◌, subst}
 use Rattle.std.specs.List.{AllByRecursion, flat_map}
-use Rattle.std.proofs.lemmas.Bool.{cond-true, cond-false, cond_both}
+use Rattle.std.proofs.lemmas.Bool.{cond-true, cond_both}
 use Rattle.std.proofs.lemmas.List.{reverse-append, append-nil}
 use Rattle.lti_roles.specs.declared.names.RoleName.{RoleName}
 use Rattle.lti_roles.specs.declared.role.Role.{Role}
 use Rattle.lti_roles.specs.Names.{Named}
-use Rattle.lti_roles.specs.Elements.{trim_front, trim_end, trimmed, is_nonempty, elements_in, elements_of}
-use Rattle.lti_roles.specs.Roles.{named, name_part, sub_part, has_empty_sub, role_named, role_behind, split_prefix, role_of, roles_of, spelled_of, printed_of, IsReadBack}
+use Rattle.lti_roles.specs.Elements.{trim_front, trimmed, is_nonempty, elements_in, elements_of}
+use Rattle.lti_roles.specs.Roles.{named, name_part, sub_part, has_empty_sub, role_named, role_behind, split_prefix, role_of, spelled_of, printed_of}
 use Rattle.lti_roles.specs.Laws.{PrintedIsRead}
 use Rattle.lti_roles.proofs.ElementLemmas.{HasNoComma, is_comma, pieces, pieces_whole, pieces_first, pieces_none}
 use Rattle.lti_roles.proofs.TrimLemmas.{trimmed_twice}

@@ -1,13 +1,13 @@
 -- Texts cut at commas, and the elements of their pieces.
-use Rattle.std.proofs.Common.{◌≡◌, ℕ, ◌<◌, ◌==◌, Bool, true, false, cond, List, [], ◌∷◌, ◌++◌, length, map, filter, Option, None, Some, MatchOption, Bor, refl, sym, ap, ◌∙◌, append_assoc, lit<, arith}
-use Rattle.std.specs.List.{AllByRecursion, slice_split, onto_first, before_first, after_first, position_or_len}
-use Rattle.std.proofs.lemmas.Bool.{cond-false, cond_both, ne_eqb}
-use Rattle.std.proofs.lemmas.List.{map-append, reverse-append}
+use Rattle.std.proofs.Common.{◌≡◌, ℕ, ◌==◌, Bool, true, false, cond, List, [], ◌∷◌, ◌++◌, length, map, Option, None, Some, MatchOption, Bor, refl, sym, ap, ◌∙◌, append_assoc, lit<}
+use Rattle.std.specs.List.{AllByRecursion, slice_split, onto_first, after_first, position_or_len}
+use Rattle.std.proofs.lemmas.Bool.{cond-false, cond_both}
+use Rattle.std.proofs.lemmas.List.{map-append}
 use Rattle.std.proofs.lemmas.List.Splits.{slice_split_first, slice_split_none}
 use Rattle.std.proofs.lemmas.List.Sums.{fails_before_first}
 use Rattle.std.proofs.lemmas.Str.Pattern.{IsSplitOnceResult, split_once_first}
 use Rattle.lti_roles.specs.declared.role.Role.{Role}
-use Rattle.lti_roles.specs.Elements.{trim_front, trim_end, trimmed, is_nonempty, elements_in, elements_of}
+use Rattle.lti_roles.specs.Elements.{trimmed, is_nonempty, elements_in}
 use Rattle.lti_roles.specs.Roles.{role_of, roles_of}
 
 abbrev pub is_comma : ℕ → Bool

@@ -3,3 +3,4 @@ mod TrimLemmas
 mod ElementLemmas
 mod PrintedLemmas
 mod BackLemmas
+mod NameLemmas

@@ -1,6 +1,5 @@
 -- Texts without spaces at their ends.
-use Rattle.std.proofs.Common.{◌≡◌, ℕ, ◌-◌, ◌==◌, Bool, true, false, cond, List, [], ◌∷◌, ◌++◌, length, take, drop, reverse, Option, None, Some, refl, sym, ap, ◌∙◌, subst, arith, lit<, take-append-drop}
-use Rattle.std.specs.Char.{len_utf8}
+use Rattle.std.proofs.Common.{◌≡◌, ℕ, ◌-◌, ◌==◌, Bool, true, false, cond, List, [], ◌∷◌, ◌++◌, length, take, drop, reverse, Option, None, Some, refl, sym, ap, ◌∙◌, arith, lit<, take-append-drop}
 use Rattle.std.specs.Option.{IfSome}
 use Rattle.std.specs.Str.Pattern.{HasCharAt, FindsCharPrefix, FindsCharSuffix, CutsPrefixes, CutsSuffixes, IsTrimStartMatches, IsTrimEndMatches}
 use Rattle.std.proofs.lemmas.Bool.{cond-false, cond_both, false_from_ne_true, eqb-true}

@@ -1,7 +1,7 @@
 -- The roles that a text lists (LTI 1.1.1, section 3, parameter `roles`, and appendix A). An element is a prefix and a
 -- name of its family, or a context role's name alone, and then nothing or `/` and a sub-role that isn't empty. That any
 -- sub-role is taken, and any other element kept as it is spelled, are this project's own rules.
-use Rattle.std.specs.Prelude.{◌≡◌, ℕ, ◌+◌, Bool, ◌==◌, nat_eq, List, [], length, drop, map, find, bytes_eq, codes, if◌then◌else◌, Option, None, Some}
+use Rattle.std.specs.Prelude.{◌≡◌, ℕ, ◌+◌, Bool, ◌==◌, nat_eq, List, length, drop, map, find, bytes_eq, codes, if◌then◌else◌, Option, None, Some}
 use Rattle.std.specs.List.{before_first, after_first, starts_with, join_by}
 use Rattle.std.specs.Option.{option_map}
 use Rattle.lti_roles.specs.declared.names.RoleName.{RoleName}

@@ -16,7 +16,7 @@ mod tables;
 #[cfg(test)]
 mod tests;
 
-pub use laws::printed_is_read;
+pub use laws::{names_are_read, printed_is_read};
 pub use names::{ContextRole, InstitutionRole, RoleName, SystemRole};
 pub use role::Role;
 pub use role_set::RoleSet;

@@ -1,4 +1,4 @@
-use Rattle.std.proofs.Common.{rules, ◌≡◌, ◌++◌, ap, ◌∙◌, arith}
+use Rattle.std.proofs.Common.{rules, ◌++◌, ap, ◌∙◌, arith}
 use Rattle.std.specs.String.{string_bytes}
 use Rattle.lti_roles.proofs.PrintedLemmas.{printed_step}
 use Rattle.lti_roles.proofs.role_set.RoleSet.print.Goals as goal
