@@ -1,0 +1,6 @@
+mod PrefixLemmas
+mod TrimLemmas
+mod ElementLemmas
+mod PrintedLemmas
+mod BackLemmas
+mod NameLemmas
