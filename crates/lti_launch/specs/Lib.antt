@@ -3,5 +3,6 @@ pub mod Parameters
 pub mod Faults
 pub mod Launch
 pub mod Found
+pub mod Roles
 pub mod CustomName
 pub mod Laws

@@ -1,9 +1,14 @@
 // A launch.
+ghost use Rattle.std.specs.Prelude.{◌≡◌, IfOk};
+ghost use Rattle.std.specs.Option.{option_map};
+ghost use Rattle.lti_launch.specs.Roles.{listed_roles};
+
 use crate::found::Found;
 use crate::sorted::Sorted;
 use crate::writing::written;
 use crate::{LaunchFault, LaunchField};
 use lti_outside::{NoMemory, Pairs};
+use lti_roles::RoleSet;
 use std::alloc::Global;
 use std::marker::Model;
 
@@ -32,11 +37,22 @@ impl Model for Launch {
     ghost invariant = { λ l. IsLaunch record { fields = map value_found l.found.items; custom = l.custom; ext = l.ext; rest = l.rest } };
 }
 
+// The roles that a text lists, or none without a text.
+fn read_roles(alloc: Global, text: Option<&str>) -> Result<RoleSet, NoMemory>
+    ensures { IfOk result (λ roles. roles ≡ listed_roles (option_map (λ text. text.now) text.entry)) }
+{
+    match text {
+        Some(text) => RoleSet::read(alloc, text),
+        None => RoleSet::read(alloc, ""),
+    }
+}
+
 impl Launch {
     ghost use Rattle.std.specs.Prelude.{◌≡◌, None, IfOk, IfErr, OnOk, map};
     ghost use Rattle.std.specs.Option.{option_map};
     ghost use Rattle.lti_launch.specs.Faults.{fault_of, IsFaultOf};
     ghost use Rattle.lti_launch.specs.Launch.{launch_of, value_of, pairs_of};
+    ghost use Rattle.lti_launch.specs.Roles.{roles_in};
     ghost use Rattle.lti_launch.specs.Laws.{Spells};
 
     /// The launch that the pairs of a message spell, or the first fault that they have. The pairs are gone over once.
@@ -81,6 +97,14 @@ impl Launch {
         ensures { result.now ≡ self.now.rest }
     {
         &self.rest
+    }
+
+    /// The roles that the parameter `roles` lists, or none where it is absent.
+    pub fn roles(&self) -> Result<RoleSet, NoMemory>
+        ensures { IfOk result (λ roles. roles ≡ roles_in self.now) }
+    {
+        let roles = read_roles(*self.found.allocator(), self.get(LaunchField::Roles))?;
+        Ok(roles)
     }
 
     /// The pairs of the launch: the parameters that have values, in the standard's order, then the custom parameters, the
