@@ -1,3 +1,4 @@
 pub mod Window
 pub mod Words
 pub mod Inside
+pub mod Pushed

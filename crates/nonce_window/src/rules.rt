@@ -1,9 +1,12 @@
 // The rules over the list of entries.
-ghost use Rattle.std.specs.Prelude.{◌≡◌, ◌<◌, ◌^◌, length};
+ghost use Rattle.std.specs.Prelude.{◌≡◌, ◌<◌, ◌^◌, [], ◌∷◌, ◌++◌, length, IsSome, IfSome, IfOk, OnOk, OnErr, vec_len, vec_capacity};
 ghost use Rattle.lti_machine.specs.Nonces as nonces;
 ghost use Rattle.lti_machine.specs.Kept.{NoRepeats};
+ghost use Rattle.nonce_window.specs.Pushed.{IsPushed};
 
-use lti_machine::{Entry, Verdict};
+use lti_machine::{Effect, Entry, Verdict};
+use lti_outside::{NoMemory, Text};
+use std::alloc::Global;
 
 // How far a timestamp may be from the moment, in seconds.
 const REACH: u64 = 5400;
@@ -93,4 +96,58 @@ fn is_live(entry: &Entry, key: &str, now: u64) -> bool
 {
     let timestamp = entry.timestamp;
     now / 60 <= timestamp / 60 + KEPT_MINUTES && is_of_key(entry, key)
+}
+
+/// Adds an entry of this nonce, unless one stands already, and leaves room for another one. On `NoMemory` the list
+/// is as before, with no less room.
+pub(crate) fn keep_once(
+    entries: &mut Vec<Entry>,
+    moment: u64,
+    key: &str,
+    timestamp: u64,
+    nonce: &str,
+) -> Result<(), NoMemory>
+    requires { NoRepeats entries.old.items }
+    ensures alone { NoRepeats entries.new.items }
+    ensures pushed { OnOk result (IsPushed entries.old.items entries.new.items key.now (record { timestamp = timestamp; nonce = nonce.now })) }
+    ensures room { vec_len entries.old < vec_capacity entries.old → vec_len entries.new < vec_capacity entries.new }
+    ensures err { OnErr result (entries.new.items ≡ entries.old.items) }
+{
+    if stands(entries, key, timestamp, nonce) {
+        return Ok(());
+    }
+    let entry = entry(*entries.allocator(), moment, key, timestamp, nonce)?;
+    entries.reserve(2)?;
+    entries.push_reserved(entry);
+    Ok(())
+}
+
+/// Adds the entry that was made ready, for which there is room.
+pub(crate) fn keep_ready(entries: &mut Vec<Entry>, ready: Option<Entry>)
+    requires { IsSome ready → vec_len entries.old < vec_capacity entries.old }
+    ensures { IfSome ready (λ entry. entries.new.items ≡ entries.old.items ++ entry ∷ []) }
+{
+    if let Some(entry) = ready {
+        entries.push_reserved(entry);
+    }
+}
+
+/// The entry of a nonce that changed nothing else.
+pub(crate) fn entry(
+    alloc: Global,
+    moment: u64,
+    key: &str,
+    timestamp: u64,
+    nonce: &str,
+) -> Result<Entry, NoMemory>
+    ensures key { IfOk result (λ made. made.key ≡ key.now) }
+    ensures stamp { IfOk result (λ made. nonces.stamp_of made ≡ record { timestamp = timestamp; nonce = nonce.now }) }
+{
+    Ok(Entry {
+        moment,
+        key: Text::new(alloc, key)?,
+        timestamp,
+        nonce: Text::new(alloc, nonce)?,
+        effect: Effect::Nothing,
+    })
 }

@@ -4,8 +4,8 @@ ghost use Rattle.nonce_window.specs.Window.{Holds, IsReady};
 ghost use Rattle.nonce_window.specs.Words.{Says, Counts, HasRoom, Adds, Keeps, SameContents};
 
 use crate::rules;
-use lti_machine::{Effect, Entry, Verdict};
-use lti_outside::{NoMemory, Text};
+use lti_machine::{Entry, Verdict};
+use lti_outside::NoMemory;
 use std::alloc::Global;
 use std::marker::Model;
 
@@ -64,13 +64,7 @@ impl NonceWindow {
         ensures ready { OnOk result (IsReady self.new key.now (record { timestamp = timestamp; nonce = nonce.now })) }
         ensures err { OnErr result (self.new ≡ self.old) }
     {
-        let entry = Entry {
-            moment: 0,
-            key: Text::new(*self.entries.allocator(), key)?,
-            timestamp,
-            nonce: Text::new(*self.entries.allocator(), nonce)?,
-            effect: Effect::Nothing,
-        };
+        let entry = rules::entry(*self.entries.allocator(), 0, key, timestamp, nonce)?;
         self.entries.reserve(1)?;
         self.ready = Some(entry);
         Ok(())
@@ -85,9 +79,8 @@ impl NonceWindow {
         ensures high { self.new.high ≡ max self.old.high now }
         ensures limit { self.new.limit ≡ self.old.limit }
     {
-        if let Some(entry) = self.ready.take() {
-            self.entries.push_reserved(entry);
-        }
+        let ready = self.ready.take();
+        rules::keep_ready(&mut self.entries, ready);
         self.highest = now;
     }
 
@@ -107,17 +100,7 @@ impl NonceWindow {
         ensures limit { self.new.limit ≡ self.old.limit }
         ensures err { OnErr result (self.new ≡ self.old) }
     {
-        if !rules::stands(&self.entries, key, timestamp, nonce) {
-            let entry = Entry {
-                moment,
-                key: Text::new(*self.entries.allocator(), key)?,
-                timestamp,
-                nonce: Text::new(*self.entries.allocator(), nonce)?,
-                effect: Effect::Nothing,
-            };
-            self.entries.reserve(2)?;
-            self.entries.push_reserved(entry);
-        }
+        rules::keep_once(&mut self.entries, moment, key, timestamp, nonce)?;
         self.highest = self.highest.max(moment);
         Ok(())
     }

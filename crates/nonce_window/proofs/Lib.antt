@@ -1,0 +1,5 @@
+pub mod OrderLemmas
+pub mod LaterLemmas
+pub mod PushLemmas
+pub mod HeldLemmas
+pub mod ReadyLemmas
