@@ -1,15 +1,15 @@
 -- Two lists with the same live stamps at a moment have them ever after, and the same verdicts.
-use Rattle.std.proofs.Common.{◌≡◌, ◌≤◌, ◌<◌, ⊎_elim, ℕ, Bool, true, false, true≢false, arith, subst, ◌^◌, ◌-◌, cond, not, nat_le, List, [], ◌∷◌, ◌++◌, length, filter, refl, sym, ap, ◌∙◌, if◌then◌else◌}
+use Rattle.std.proofs.Common.{◌≡◌, ◌≤◌, ◌<◌, ⊎_elim, ℕ, Bool, true, false, true≢false, arith, subst, ◌^◌, ◌-◌, not, nat_le, List, [], ◌∷◌, ◌++◌, length, filter, refl, sym, ap, ◌∙◌, if◌then◌else◌}
 use Rattle.std.specs.List.{list_any}
-use Rattle.std.proofs.lemmas.Bool.{cond-true, cond-false, cond_both, cases_Bool}
+use Rattle.std.proofs.lemmas.Bool.{cond-true, cond_both, cases_Bool}
 use Rattle.std.proofs.lemmas.Bool.Decides.{nat_tests}
 use Rattle.lti_machine.specs.declared.entry.Entry.{Entry}
 use Rattle.lti_machine.specs.declared.verdict.Verdict.{Verdict}
 use Rattle.lti_machine.specs.declared.verdict.Verdict.TheVariants.{New, Outside, Used, WindowFull}
 use Rattle.lti_machine.specs.Kept.{NoRepeats}
 use Rattle.lti_machine.specs.Nonces.{Stamp, stamp_of, same_stamp, live, stands, is_inside, verdict}
-use Rattle.nonce_window.specs.Window.{WindowValue, Holds}
-use Rattle.nonce_window.specs.Words.{Says}
+use Rattle.nonce_window.specs.Window.{WindowValue}
+use Rattle.nonce_window.specs.Words.{Says, SameContents}
 use Rattle.nonce_window.proofs.LaterLemmas.{still, live-later, length-live_later}
 use Rattle.nonce_window.proofs.PushLemmas.{grown, live-push, stands-live, inside_is_still, length-live_push}
 
@@ -27,12 +27,12 @@ pub same_verdict : (known entries : List Entry) (key : List ℕ) (stamp : Stamp)
 same_verdict known entries key stamp now limit same =
     ⊎_elim
     (λ inside.
-      let still_here = inside_is_still stamp now inside in
-      let stand = stands-live known key now stamp still_here ∙ ap (list_any (same_stamp stamp)) same ∙ sym (stands-live entries key now stamp still_here) in
-      λ i. if not (is_inside stamp.timestamp now) then Outside else if stand i then Used else if nat_le limit (length (same i)) then WindowFull (length (same i)) else New)
-    (λ outside. 
-      cond-true (not (is_inside stamp.timestamp now)) Outside (if stands known key stamp then Used else if nat_le limit (length (live known key now)) then WindowFull (length (live known key now)) else New) (ap not outside)
-      ∙ sym (cond-true (not (is_inside stamp.timestamp now)) Outside (if stands entries key stamp then Used else if nat_le limit (length (live entries key now)) then WindowFull (length (live entries key now)) else New) (ap not outside)))
+    let still_here = inside_is_still stamp now inside in
+    let stand = stands-live known key now stamp still_here ∙ ap (list_any (same_stamp stamp)) same ∙ sym (stands-live entries key now stamp still_here) in
+    λ i. if not (is_inside stamp.timestamp now) then Outside else if stand i then Used else if nat_le limit (length (same i)) then WindowFull (length (same i)) else New)
+    (λ outside.
+    cond-true (not (is_inside stamp.timestamp now)) Outside (if stands known key stamp then Used else if nat_le limit (length (live known key now)) then WindowFull (length (live known key now)) else New) (ap not outside)
+    ∙ sym (cond-true (not (is_inside stamp.timestamp now)) Outside (if stands entries key stamp then Used else if nat_le limit (length (live entries key now)) then WindowFull (length (live entries key now)) else New) (ap not outside)))
     (cases_Bool (is_inside stamp.timestamp now))
 
 -- the verdict of what a window knows is the verdict of each list that it holds
@@ -62,10 +62,10 @@ new_parts entries key stamp now limit =
     cond_both (not (is_inside stamp.timestamp now)) Outside (if stands entries key stamp then Used else full) (λ v. v ≡ New → IsNew entries key stamp now limit)
     (λ _ new. not_new Outside new refl)
     (λ _. cond_both (stands entries key stamp) Used full (λ v. v ≡ New → IsNew entries key stamp now limit)
-      (λ _ new. not_new Used new refl)
-      (λ free. cond_both (nat_le limit count) (WindowFull count) New (λ v. v ≡ New → IsNew entries key stamp now limit)
-        (λ _ new. not_new (WindowFull count) new refl)
-        (λ room _. record { fresh = free; below = grind (arith, nat_tests) })))
+    (λ _ new. not_new Used new refl)
+    (λ free. cond_both (nat_le limit count) (WindowFull count) New (λ v. v ≡ New → IsNew entries key stamp now limit)
+    (λ _ new. not_new (WindowFull count) new refl)
+    (λ room _. record { fresh = free; below = grind (arith, nat_tests) })))
 
 -- ---- one more entry
 
@@ -78,8 +78,8 @@ held_pushed known entries k e high now h held keys stamps key =
 pub few_pushed : (entries : List Entry) (e : Entry) (high now : ℕ) → high ≤ now → ((key : List ℕ) → length (live entries key high) < 2 ^ 32) → length (live entries e.key now) < 2 ^ 32 - 1 → (key : List ℕ) → length (live (entries ++ e ∷ []) key now) < 2 ^ 32
 few_pushed entries e high now h few room key =
     let within = length-live_push entries e key now (2 ^ 32 - 1)
-      (omega (arith, few key, length-live_later entries key high now h))
-      (λ _ owner. subst (λ k. length (live entries k now) < 2 ^ 32 - 1) owner room) in
+    (omega (arith, few key, length-live_later entries key high now h))
+    (λ _ owner. subst (λ k. length (live entries k now) < 2 ^ 32 - 1) owner room) in
     omega (arith, within)
 
 pub few_later : (entries : List Entry) (high now : ℕ) → high ≤ now → ((key : List ℕ) → length (live entries key high) < 2 ^ 32) → (key : List ℕ) → length (live entries key now) < 2 ^ 32
@@ -94,3 +94,10 @@ none_repeat = tt
 pub none_live : (key : List ℕ) (now : ℕ) → length (live [] key now) < 2 ^ 32
 unfolding live
 none_live key now = omega arith
+
+-- ---- the same contents
+
+-- what a window says, one with the same contents says
+pub says_after : (before after : WindowValue) (key : List ℕ) (stamp : Stamp) (now : ℕ) (answer : Verdict) → SameContents before after → Says before key stamp now answer → Says after key stamp now answer
+says_after before after key stamp now answer same says = λ entries held.
+    says entries ((same.lists entries).1 held) ∙ ap (verdict entries key stamp now) (sym same.limit)

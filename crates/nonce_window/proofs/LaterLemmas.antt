@@ -1,6 +1,5 @@
 -- What is live at a later moment is a part of what is live now.
 use Rattle.std.proofs.Common.{◌≡◌, ◌≤◌, ◌+◌, ◌/◌, ⊎_elim, ℕ, Bool, true, false, true≢false, cond, ◌&&◌, ◌||◌, nat_le, List, [], ◌∷◌, length, filter, refl, sym, ap, ◌∙◌, arith, is_le, if◌then◌else◌}
-use Rattle.std.specs.Cmp.{first_so, second_so}
 use Rattle.std.specs.List.{list_any}
 use Rattle.std.specs.Ordering.{nat_cmp, ordering_then}
 use Rattle.std.specs.declared.cmp.Ordering.{Ordering}
@@ -47,23 +46,23 @@ filter-insert_live now s [] lives = filter_in (still now) s [] lives
 filter-insert_live now s (t ∷ ts) lives =
     ⊎_elim
     (λ before.
-      let behind = still-behind now s t before lives in
-      ap (filter (still now)) (insert_here s t ts before)
-      ∙ filter_in (still now) s (t ∷ ts) lives
-      ∙ ap (λ x. s ∷ x) (filter_in (still now) t ts behind)
-      ∙ sym (insert_here s t (filter (still now) ts) before)
-      ∙ ap (insert_stamp s) (sym (filter_in (still now) t ts behind)))
+    let behind = still-behind now s t before lives in
+    ap (filter (still now)) (insert_here s t ts before)
+    ∙ filter_in (still now) s (t ∷ ts) lives
+    ∙ ap (λ x. s ∷ x) (filter_in (still now) t ts behind)
+    ∙ sym (insert_here s t (filter (still now) ts) before)
+    ∙ ap (insert_stamp s) (sym (filter_in (still now) t ts behind)))
     (λ past. ap (filter (still now)) (insert_past s t ts past) ∙ ⊎_elim
-      (λ stays.
-        filter_in (still now) t (insert_stamp s ts) stays
-        ∙ ap (λ x. t ∷ x) (filter-insert_live now s ts lives)
-        ∙ sym (insert_past s t (filter (still now) ts) past)
-        ∙ ap (insert_stamp s) (sym (filter_in (still now) t ts stays)))
-      (λ goes.
-        filter_out (still now) t (insert_stamp s ts) goes
-        ∙ filter-insert_live now s ts lives
-        ∙ ap (insert_stamp s) (sym (filter_out (still now) t ts goes)))
-      (cases_Bool (still now t)))
+    (λ stays.
+    filter_in (still now) t (insert_stamp s ts) stays
+    ∙ ap (λ x. t ∷ x) (filter-insert_live now s ts lives)
+    ∙ sym (insert_past s t (filter (still now) ts) past)
+    ∙ ap (insert_stamp s) (sym (filter_in (still now) t ts stays)))
+    (λ goes.
+    filter_out (still now) t (insert_stamp s ts) goes
+    ∙ filter-insert_live now s ts lives
+    ∙ ap (insert_stamp s) (sym (filter_out (still now) t ts goes)))
+    (cases_Bool (still now t)))
     (cases_Bool (le s t))
 
 filter-insert_forgotten : (now : ℕ) (s : Stamp) (ts : List Stamp) → still now s ≡ false → filter (still now) (insert_stamp s ts) ≡ filter (still now) ts
@@ -88,9 +87,9 @@ filter-add_live now s ts lives =
     ⊎_elim
     (λ there. ap (filter (still now)) (add_there s ts there) ∙ sym (add_there s (filter (still now) ts) (list_any-filter now s ts lives ∙ there)))
     (λ fresh.
-      ap (filter (still now)) (add_new s ts fresh)
-      ∙ filter-insert_live now s ts lives
-      ∙ sym (add_new s (filter (still now) ts) (list_any-filter now s ts lives ∙ fresh)))
+    ap (filter (still now)) (add_new s ts fresh)
+    ∙ filter-insert_live now s ts lives
+    ∙ sym (add_new s (filter (still now) ts) (list_any-filter now s ts lives ∙ fresh)))
     (cases_Bool (list_any (same_stamp s) ts))
 
 filter-add_forgotten : (now : ℕ) (s : Stamp) (ts : List Stamp) → still now s ≡ false → filter (still now) (add_stamp s ts) ≡ filter (still now) ts
@@ -105,11 +104,16 @@ live-cons_at : (e : Entry) (es : List Entry) (key : List ℕ) (now : ℕ) → li
 unfolding live
 live-cons_at e es key now = refl
 
-live-cons_in : (e : Entry) (es : List Entry) (key : List ℕ) (now : ℕ) → is_live key now e ≡ true → live (e ∷ es) key now ≡ add_stamp (stamp_of e) (live es key now)
+pub live-cons_in : (e : Entry) (es : List Entry) (key : List ℕ) (now : ℕ) → is_live key now e ≡ true → live (e ∷ es) key now ≡ add_stamp (stamp_of e) (live es key now)
 live-cons_in e es key now h = live-cons_at e es key now ∙ cond-true (is_live key now e) (add_stamp (stamp_of e) (live es key now)) (live es key now) h
 
-live-cons_out : (e : Entry) (es : List Entry) (key : List ℕ) (now : ℕ) → is_live key now e ≡ false → live (e ∷ es) key now ≡ live es key now
+pub live-cons_out : (e : Entry) (es : List Entry) (key : List ℕ) (now : ℕ) → is_live key now e ≡ false → live (e ∷ es) key now ≡ live es key now
 live-cons_out e es key now h = live-cons_at e es key now ∙ cond-false (is_live key now e) (add_stamp (stamp_of e) (live es key now)) (live es key now) h
+
+-- the same entry before two lists with the same live stamps
+pub live-cons_same : (e : Entry) (es fs : List Entry) (key : List ℕ) (now : ℕ) → live es key now ≡ live fs key now → live (e ∷ es) key now ≡ live (e ∷ fs) key now
+unfolding live
+live-cons_same e es fs key now same = ap (λ x. if is_live key now e then add_stamp (stamp_of e) x else x) same
 
 -- what is live later is what is live now and isn't forgotten then
 pub live-later : (es : List Entry) (key : List ℕ) (now later : ℕ) → now ≤ later → live es key later ≡ filter (still later) (live es key now)
@@ -117,20 +121,20 @@ live-later [] key now later h = unfold live in refl
 live-later (e ∷ es) key now later h =
     ⊎_elim
     (λ of_key. ⊎_elim
-      (λ stays.
-        live-cons_in e es key later (and_from (is_of_key key e) (still later (stamp_of e)) of_key stays)
-        ∙ ap (add_stamp (stamp_of e)) (live-later es key now later h)
-        ∙ sym (filter-add_live later (stamp_of e) (live es key now) stays)
-        ∙ ap (filter (still later)) (sym (live-cons_in e es key now (and_from (is_of_key key e) (still now (stamp_of e)) of_key (still-earlier now later (stamp_of e) h stays)))))
-      (λ goes. live-cons_out e es key later (and_right (is_of_key key e) (still later (stamp_of e)) goes) ∙ live-later es key now later h ∙ ⊎_elim
-        (λ lives. sym (filter-add_forgotten later (stamp_of e) (live es key now) goes) ∙ ap (filter (still later)) (sym (live-cons_in e es key now lives)))
-        (λ gone. ap (filter (still later)) (sym (live-cons_out e es key now gone)))
-        (cases_Bool (is_live key now e)))
-      (cases_Bool (still later (stamp_of e))))
+    (λ stays.
+    live-cons_in e es key later (and_from (is_of_key key e) (still later (stamp_of e)) of_key stays)
+    ∙ ap (add_stamp (stamp_of e)) (live-later es key now later h)
+    ∙ sym (filter-add_live later (stamp_of e) (live es key now) stays)
+    ∙ ap (filter (still later)) (sym (live-cons_in e es key now (and_from (is_of_key key e) (still now (stamp_of e)) of_key (still-earlier now later (stamp_of e) h stays)))))
+    (λ goes. live-cons_out e es key later (and_right (is_of_key key e) (still later (stamp_of e)) goes) ∙ live-later es key now later h ∙ ⊎_elim
+    (λ lives. sym (filter-add_forgotten later (stamp_of e) (live es key now) goes) ∙ ap (filter (still later)) (sym (live-cons_in e es key now lives)))
+    (λ gone. ap (filter (still later)) (sym (live-cons_out e es key now gone)))
+    (cases_Bool (is_live key now e)))
+    (cases_Bool (still later (stamp_of e))))
     (λ other.
-      live-cons_out e es key later (ap (λ b. b && still later (stamp_of e)) other)
-      ∙ live-later es key now later h
-      ∙ ap (filter (still later)) (sym (live-cons_out e es key now (ap (λ b. b && still now (stamp_of e)) other))))
+    live-cons_out e es key later (ap (λ b. b && still later (stamp_of e)) other)
+    ∙ live-later es key now later h
+    ∙ ap (filter (still later)) (sym (live-cons_out e es key now (ap (λ b. b && still now (stamp_of e)) other))))
     (cases_Bool (is_of_key key e))
 
 length-filter_le : (p : Stamp → Bool) (ts : List Stamp) → length (filter p ts) ≤ length ts

@@ -1,5 +1,5 @@
 -- Stamps are in a total order, so it doesn't matter which of two is put in its place first.
-use Rattle.std.proofs.Common.{◌≡◌, ◌⊎◌, inl, inr, ⊎_elim, ℕ, Bool, true, false, true≢false, cond, ◌&&◌, ◌||◌, List, [], ◌∷◌, refl, sym, ap, ◌∙◌, bytes_eq, is_le, is_eq}
+use Rattle.std.proofs.Common.{◌≡◌, ◌⊎◌, inl, inr, ⊎_elim, Bool, true, false, true≢false, ◌&&◌, List, [], ◌∷◌, refl, sym, ap, ◌∙◌, is_le, is_eq}
 use Rattle.std.specs.List.{list_any}
 use Rattle.std.specs.Ordering.{nat_cmp, ordering_then, ordering_reverse}
 use Rattle.std.specs.declared.cmp.Ordering.{Ordering}
@@ -43,9 +43,9 @@ pub le_trans : (a b c : Stamp) → le a b ≡ true → le b c ≡ true → le a 
 le_trans a b c p q =
     ⊎_elim
     (λ less. ⊎_elim
-      (λ more. ap is_le (stamps_total.trans a b c less more))
-      (λ same. ap is_le (sym (alike_right stamps_total b c a same) ∙ less))
-      (le_cases (stamp_cmp b c) q))
+    (λ more. ap is_le (stamps_total.trans a b c less more))
+    (λ same. ap is_le (sym (alike_right stamps_total b c a same) ∙ less))
+    (le_cases (stamp_cmp b c) q))
     (λ same. ap is_le (stamps_total.congr a b c same) ∙ q)
     (le_cases (stamp_cmp a b) p)
 
@@ -72,11 +72,11 @@ front : (a b : Stamp) (ts : List Stamp) → insert_stamp a ts ≡ a ∷ ts → i
 front a b ts first second =
     ⊎_elim
     (λ before. ⊎_elim
-      (λ after.
-        let same = same_from_le a b before after in
-        ap (λ x. insert_stamp x (b ∷ ts)) same ∙ ap (λ x. insert_stamp b (x ∷ ts)) (sym same))
-      (λ other. insert_here a b ts before ∙ ap (λ x. a ∷ x) (sym second) ∙ sym (insert_past b a ts other))
-      (cases_Bool (le b a)))
+    (λ after.
+    let same = same_from_le a b before after in
+    ap (λ x. insert_stamp x (b ∷ ts)) same ∙ ap (λ x. insert_stamp b (x ∷ ts)) (sym same))
+    (λ other. insert_here a b ts before ∙ ap (λ x. a ∷ x) (sym second) ∙ sym (insert_past b a ts other))
+    (cases_Bool (le b a)))
     (λ other. insert_past a b ts other ∙ ap (λ x. b ∷ x) first ∙ sym (insert_here b a ts (le_flip a b other)))
     (cases_Bool (le a b))
 
@@ -95,21 +95,21 @@ insert_stamp-swap a b [] = front a b [] refl refl
 insert_stamp-swap a b (t ∷ ts) =
     ⊎_elim
     (λ here. ⊎_elim
-      (λ there.
-        ap (insert_stamp a) (insert_here b t ts there)
-        ∙ front a b (t ∷ ts) (insert_here a t ts here) (insert_here b t ts there)
-        ∙ ap (insert_stamp b) (sym (insert_here a t ts here)))
-      (λ past. apart a b t ts here past)
-      (cases_Bool (le b t)))
+    (λ there.
+    ap (insert_stamp a) (insert_here b t ts there)
+    ∙ front a b (t ∷ ts) (insert_here a t ts here) (insert_here b t ts there)
+    ∙ ap (insert_stamp b) (sym (insert_here a t ts here)))
+    (λ past. apart a b t ts here past)
+    (cases_Bool (le b t)))
     (λ past. ⊎_elim
-      (λ there. sym (apart b a t ts there past))
-      (λ far.
-        ap (insert_stamp a) (insert_past b t ts far)
-        ∙ insert_past a t (insert_stamp b ts) past
-        ∙ ap (λ x. t ∷ x) (insert_stamp-swap a b ts)
-        ∙ sym (insert_past b t (insert_stamp a ts) far)
-        ∙ ap (insert_stamp b) (sym (insert_past a t ts past)))
-      (cases_Bool (le b t)))
+    (λ there. sym (apart b a t ts there past))
+    (λ far.
+    ap (insert_stamp a) (insert_past b t ts far)
+    ∙ insert_past a t (insert_stamp b ts) past
+    ∙ ap (λ x. t ∷ x) (insert_stamp-swap a b ts)
+    ∙ sym (insert_past b t (insert_stamp a ts) far)
+    ∙ ap (insert_stamp b) (sym (insert_past a t ts past)))
+    (cases_Bool (le b t)))
     (cases_Bool (le a t))
 
 -- ---- added, unless it is there
@@ -137,18 +137,18 @@ add_stamp-swap a b ts =
     ⊎_elim
     (λ there. swap_there a b ts there)
     (λ new. ⊎_elim
-      (λ there. sym (swap_there b a ts there))
-      (λ fresh. ⊎_elim
-        (λ test.
-          let same = same_from_test a b test in
-          ap (λ x. add_stamp x (add_stamp b ts)) same ∙ ap (λ x. add_stamp b (add_stamp x ts)) (sym same))
-        (λ differ.
-          let back = same_stamp-flip a b differ in
-          add_new a (add_stamp b ts) (list_any-add_stamp a b ts ∙ or_from (same_stamp a b) (list_any (same_stamp a) ts) differ new)
-          ∙ ap (insert_stamp a) (add_new b ts fresh)
-          ∙ insert_stamp-swap a b ts
-          ∙ ap (insert_stamp b) (sym (add_new a ts new))
-          ∙ sym (add_new b (add_stamp a ts) (list_any-add_stamp b a ts ∙ or_from (same_stamp b a) (list_any (same_stamp b) ts) back fresh)))
-        (cases_Bool (same_stamp a b)))
-      (cases_Bool (list_any (same_stamp b) ts)))
+    (λ there. sym (swap_there b a ts there))
+    (λ fresh. ⊎_elim
+    (λ test.
+    let same = same_from_test a b test in
+    ap (λ x. add_stamp x (add_stamp b ts)) same ∙ ap (λ x. add_stamp b (add_stamp x ts)) (sym same))
+    (λ differ.
+    let back = same_stamp-flip a b differ in
+    add_new a (add_stamp b ts) (list_any-add_stamp a b ts ∙ or_from (same_stamp a b) (list_any (same_stamp a) ts) differ new)
+    ∙ ap (insert_stamp a) (add_new b ts fresh)
+    ∙ insert_stamp-swap a b ts
+    ∙ ap (insert_stamp b) (sym (add_new a ts new))
+    ∙ sym (add_new b (add_stamp a ts) (list_any-add_stamp b a ts ∙ or_from (same_stamp b a) (list_any (same_stamp b) ts) back fresh)))
+    (cases_Bool (same_stamp a b)))
+    (cases_Bool (list_any (same_stamp b) ts)))
     (cases_Bool (list_any (same_stamp a) ts))

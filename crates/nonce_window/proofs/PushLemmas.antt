@@ -1,12 +1,12 @@
 -- The live stamps of a list with one more entry at its end.
-use Rattle.std.proofs.Common.{◌≡◌, ◌≤◌, ◌+◌, ◌/◌, ⊎_elim, ℕ, Bool, true, false, true≢false, cond, not, ◌&&◌, ◌||◌, ◌==◌, nat_le, List, [], ◌∷◌, ◌++◌, length, ◌<◌, refl, sym, ap, ◌∙◌, arith, bytes_eq, if◌then◌else◌}
+use Rattle.std.proofs.Common.{◌≡◌, ◌≤◌, ◌+◌, ℕ, Bool, true, false, cond, not, ◌&&◌, ◌||◌, ◌==◌, List, [], ◌∷◌, ◌++◌, length, ◌<◌, refl, sym, ap, ◌∙◌, arith, bytes_eq, if◌then◌else◌}
 use Rattle.std.specs.Cmp.{first_so, second_so}
 use Rattle.std.specs.Cmp.Lexicographic.{bytes_decides}
 use Rattle.std.specs.List.{list_any}
-use Rattle.std.proofs.lemmas.Bool.{cond-true, cond-false, cond_both, cases_Bool, true_from_ne_false}
+use Rattle.std.proofs.lemmas.Bool.{cond_both}
 use Rattle.std.proofs.lemmas.Bool.Decides.{nat_tests}
 use Rattle.lti_machine.specs.declared.entry.Entry.{Entry}
-use Rattle.lti_machine.specs.Nonces.{Stamp, stamp_of, same_stamp, add_stamp, insert_stamp, is_of_key, is_live, is_inside, live, uses, stands}
+use Rattle.lti_machine.specs.Nonces.{Stamp, stamp_of, same_stamp, add_stamp, insert_stamp, is_of_key, is_live, is_inside, live, stands}
 use Rattle.lti_machine.proofs.LiveLemmas.{same_from_test, list_any-live, stands_live, is_of_key_parts, length-insert_stamp}
 use Rattle.nonce_window.proofs.OrderLemmas.{add_stamp-swap, add_there}
 use Rattle.nonce_window.proofs.LaterLemmas.{still}

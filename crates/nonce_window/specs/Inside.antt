@@ -1,5 +1,5 @@
 -- What a window keeps in a list of entries, and what is true of it.
-use Rattle.std.specs.Prelude.{◌≡◌, ◌<◌, ◌^◌, ℕ, List, length, Option, IsSome, vec_len, vec_capacity}
+use Rattle.std.specs.Prelude.{◌<◌, ◌^◌, ℕ, List, length, Option, IsSome, vec_len, vec_capacity}
 use Rattle.std.specs.Option.{option_map}
 use Rattle.lti_machine.specs.declared.entry.Entry.{Entry}
 use Rattle.lti_machine.specs.Nonces.{Stamp, live, stamp_of}

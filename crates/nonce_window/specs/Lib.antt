@@ -2,3 +2,4 @@ pub mod Window
 pub mod Words
 pub mod Inside
 pub mod Pushed
+pub mod Laws

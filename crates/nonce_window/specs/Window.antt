@@ -14,7 +14,8 @@ pub record WindowValue : Type 0 where
   -- the key and the stamp for which room was made
   pub ready : Option (List ℕ × Stamp)
 
--- each key has the same stamps that aren't forgotten at the window's moment
+-- Each key has the same stamps that aren't forgotten at the window's moment. So a window holds what it knows, and
+-- each list that may stand for it.
 abbrev pub Holds : WindowValue → List Entry → Type 0
 Holds window entries = (key : List ℕ) → live window.known key window.high ≡ live entries key window.high
 

@@ -6,7 +6,13 @@
 //! this project's own rules. Promised: what is forgotten changes no verdict.
 #![tactic(auto)]
 
+mod laws;
 mod rules;
+#[cfg(test)]
+mod tests;
 mod window;
 
+pub use laws::{
+    forgetting_changes_no_verdict, forgotten_stays_outside, kept_is_bounded, unsigned_is_held,
+};
 pub use window::NonceWindow;

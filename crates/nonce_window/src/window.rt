@@ -49,7 +49,7 @@ impl NonceWindow {
         })
     }
 
-    /// What the entries say of a nonce at the moment `now`, which is at least `high`.
+    /// What all nonces that were admitted and loaded say of a nonce at the moment `now`, which is at least `high`.
     pub fn judge(&self, now: u64, key: &str, timestamp: u64, nonce: &str) -> Verdict
         requires { self.now.high ≤ now }
         ensures { Says self.now key.now (record { timestamp = timestamp; nonce = nonce.now }) now result }
@@ -58,7 +58,7 @@ impl NonceWindow {
     }
 
     /// Makes room for one nonce, so that `admit` of it takes no memory. The room is for this nonce alone, and
-    /// is used up or lost at the next call that changes the window. On `NoMemory` nothing has changed.
+    /// lasts until the next call that changes the window. On `NoMemory` nothing has changed.
     pub fn prepare(&mut self, key: &str, timestamp: u64, nonce: &str) -> Result<(), NoMemory>
         ensures contents { SameContents self.old self.new }
         ensures ready { OnOk result (IsReady self.new key.now (record { timestamp = timestamp; nonce = nonce.now })) }
@@ -84,8 +84,9 @@ impl NonceWindow {
         self.highest = now;
     }
 
-    /// Adds an entry that was accepted at `moment` in an earlier run, without judging its nonce. It may repeat
-    /// another one, and may be forgotten already. On `NoMemory` nothing has changed.
+    /// Adds a nonce that was accepted at `moment` in an earlier run, without judging it. It isn't empty; it may
+    /// repeat another one, and may be forgotten already. `kept` of the key is below 2^32 - 1 before. On `NoMemory`
+    /// nothing has changed.
     pub fn load(
         &mut self,
         moment: u64,
@@ -101,7 +102,7 @@ impl NonceWindow {
         ensures err { OnErr result (self.new ≡ self.old) }
     {
         rules::keep_once(&mut self.entries, moment, key, timestamp, nonce)?;
-        self.highest = self.highest.max(moment);
+        self.highest = moment.max(self.highest);
         Ok(())
     }
 

@@ -1,5 +1,5 @@
-use Rattle.std.proofs.Common.{rules, ◌≡◌, true, false, List, [], ◌∷◌, ◌++◌, refl, sym, ◌∙◌}
-use Rattle.lti_machine.specs.Nonces.{Stamp, stamp_of, stands}
+use Rattle.std.proofs.Common.{rules, ◌≡◌, true, [], ◌∷◌, ◌++◌, refl, sym, ◌∙◌}
+use Rattle.lti_machine.specs.Nonces.{stamp_of, stands}
 use Rattle.lti_machine.proofs.LiveLemmas.{NoRepeats-push}
 use Rattle.nonce_window.proofs.PushLemmas.{live-push_there}
 use Rattle.nonce_window.proofs.HeldLemmas.{same_pushed}

@@ -1,7 +1,6 @@
-use Rattle.std.proofs.Common.{rules, ◌≡◌, ◌≤◌, ◌<◌, ◌^◌, ◌-◌, ap, sym, refl, ◌∙◌, arith, length, subst, Some, is_some, [], ◌∷◌, ◌++◌}
+use Rattle.std.proofs.Common.{rules, ◌≡◌, ◌≤◌, ◌<◌, ◌^◌, ap, sym, refl, ◌∙◌, arith, length, subst, Some, is_some}
 use Rattle.std.proofs.lemmas.Bool.{false≢true}
-use Rattle.lti_machine.specs.declared.entry.Entry.{Entry}
-use Rattle.lti_machine.specs.Nonces.{Stamp, stamp_of, live, stands}
+use Rattle.lti_machine.specs.Nonces.{Stamp, live, stands}
 use Rattle.lti_machine.proofs.LiveLemmas.{NoRepeats-push}
 use Rattle.nonce_window.specs.Window.{WindowValue, Holds}
 use Rattle.nonce_window.specs.Inside.{ready_of}

@@ -1,5 +1,5 @@
-use Rattle.std.proofs.Common.{◌≡◌, ◌≤◌, ◌<◌, ◌^◌, length, sym, ap, ◌∙◌, arith}
-use Rattle.lti_machine.specs.Nonces.{Stamp, live, verdict}
+use Rattle.std.proofs.Common.{◌≤◌, ap, ◌∙◌, arith}
+use Rattle.lti_machine.specs.Nonces.{Stamp, verdict}
 use Rattle.nonce_window.specs.Window.{WindowValue}
 use Rattle.nonce_window.proofs.LaterLemmas.{length-live_later}
 use Rattle.nonce_window.proofs.HeldLemmas.{says_known}

@@ -1,11 +1,10 @@
-use Rattle.std.proofs.Common.{rules, ◌≡◌, ◌≤◌, ◌<◌, ◌^◌, ◌-◌, ap, sym, refl, ◌∙◌, arith, length, subst, [], ◌∷◌, ◌++◌}
+use Rattle.std.proofs.Common.{◌≤◌, ◌<◌, ◌^◌, ◌-◌, sym, refl, ◌∙◌, arith, length, subst}
 use Rattle.lti_machine.specs.declared.entry.Entry.{Entry}
 use Rattle.lti_machine.specs.declared.entry.Effect.TheVariants.{Nothing}
-use Rattle.lti_machine.specs.Nonces.{Stamp, live}
+use Rattle.lti_machine.specs.Nonces.{live}
 use Rattle.nonce_window.specs.Window.{WindowValue, Holds}
-use Rattle.nonce_window.specs.Words.{HasRoom}
 use Rattle.nonce_window.proofs.LaterLemmas.{length-live_later}
-use Rattle.nonce_window.proofs.HeldLemmas.{same_later, held_pushed, few_pushed}
+use Rattle.nonce_window.proofs.HeldLemmas.{held_pushed, few_pushed}
 use Rattle.nonce_window.proofs.window.NonceWindow.load.Goals as goal
 
 pub invariant_of-self-2 : goal.invariant_of-self-2

@@ -1,8 +1,4 @@
-use Rattle.std.proofs.Common.{arith, refl, ◌≡◌, ◌<◌, ◌^◌, List, [], length}
 use Rattle.std.proofs.lemmas.Bool.{false≢true}
-use Rattle.lti_machine.specs.declared.entry.Entry.{Entry}
-use Rattle.lti_machine.specs.Kept.{NoRepeats}
-use Rattle.lti_machine.specs.Nonces.{live}
 use Rattle.nonce_window.proofs.HeldLemmas.{none_repeat, none_live}
 use Rattle.nonce_window.proofs.window.NonceWindow.new.Goals as goal
 

@@ -1,4 +1,4 @@
-use Rattle.std.proofs.Common.{◌≡◌, ◌≤◌, sym, subst, arith}
+use Rattle.std.proofs.Common.{◌≤◌, sym, subst, arith}
 use Rattle.nonce_window.specs.Window.{WindowValue, Holds}
 use Rattle.nonce_window.proofs.HeldLemmas.{same_later, few_later}
 use Rattle.nonce_window.proofs.window.NonceWindow.raise.Goals as goal
