@@ -113,7 +113,8 @@ pub(crate) fn keep_once(
     ensures room { vec_len entries.old < vec_capacity entries.old → vec_len entries.new < vec_capacity entries.new }
     ensures err { OnErr result (entries.new.items ≡ entries.old.items) }
 {
-    if stands(entries, key, timestamp, nonce) {
+    let repeats = stands(entries, key, timestamp, nonce);
+    if repeats {
         return Ok(());
     }
     let entry = entry(*entries.allocator(), moment, key, timestamp, nonce)?;
