@@ -102,7 +102,6 @@ fn is_live(entry: &Entry, key: &str, now: u64) -> bool
 /// is as before, with no less room.
 pub(crate) fn keep_once(
     entries: &mut Vec<Entry>,
-    moment: u64,
     key: &str,
     timestamp: u64,
     nonce: &str,
@@ -117,7 +116,7 @@ pub(crate) fn keep_once(
     if repeats {
         return Ok(());
     }
-    let entry = entry(*entries.allocator(), moment, key, timestamp, nonce)?;
+    let entry = entry(*entries.allocator(), key, timestamp, nonce)?;
     entries.reserve(2)?;
     entries.push_reserved(entry);
     Ok(())
@@ -133,10 +132,9 @@ pub(crate) fn keep_ready(entries: &mut Vec<Entry>, ready: Option<Entry>)
     }
 }
 
-/// The entry of a nonce that changed nothing else.
+/// An entry of this nonce. No rule of the window reads an entry's moment or its effect.
 pub(crate) fn entry(
     alloc: Global,
-    moment: u64,
     key: &str,
     timestamp: u64,
     nonce: &str,
@@ -145,7 +143,7 @@ pub(crate) fn entry(
     ensures stamp { IfOk result (λ made. nonces.stamp_of made ≡ record { timestamp = timestamp; nonce = nonce.now }) }
 {
     Ok(Entry {
-        moment,
+        moment: 0,
         key: Text::new(alloc, key)?,
         timestamp,
         nonce: Text::new(alloc, nonce)?,

@@ -64,7 +64,7 @@ impl NonceWindow {
         ensures ready { OnOk result (IsReady self.new key.now (record { timestamp = timestamp; nonce = nonce.now })) }
         ensures err { OnErr result (self.new ≡ self.old) }
     {
-        let entry = rules::entry(*self.entries.allocator(), 0, key, timestamp, nonce)?;
+        let entry = rules::entry(*self.entries.allocator(), key, timestamp, nonce)?;
         self.entries.reserve(1)?;
         self.ready = Some(entry);
         Ok(())
@@ -101,7 +101,7 @@ impl NonceWindow {
         ensures limit { self.new.limit ≡ self.old.limit }
         ensures err { OnErr result (self.new ≡ self.old) }
     {
-        rules::keep_once(&mut self.entries, moment, key, timestamp, nonce)?;
+        rules::keep_once(&mut self.entries, key, timestamp, nonce)?;
         self.highest = moment.max(self.highest);
         Ok(())
     }
