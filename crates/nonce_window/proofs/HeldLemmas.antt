@@ -67,6 +67,10 @@ new_parts entries key stamp now limit =
     (λ _ new. not_new (WindowFull count) new refl)
     (λ room _. record { fresh = free; below = grind (arith, nat_tests) })))
 
+-- where a window says that a stamp is new, what it knows says so
+pub new_known : (window : WindowValue) (key : List ℕ) (stamp : Stamp) (now : ℕ) → Says window key stamp now New → IsNew window.known key stamp now window.limit
+new_known window key stamp now says = new_parts window.known key stamp now window.limit (sym (says window.known (λ _. refl)))
+
 -- ---- one more entry
 
 -- an entry takes the place of another with its key and its stamp

@@ -5,7 +5,7 @@ use Rattle.std.proofs.lemmas.Bool.{cond_both, false_from_ne_true}
 use Rattle.lti_machine.specs.declared.entry.Entry.{Entry}
 use Rattle.lti_machine.specs.Nonces.{stamp_of, add_stamp, is_of_key, is_inside, is_live, live}
 use Rattle.lti_machine.proofs.LiveLemmas.{is_of_key_parts}
-use Rattle.nonce_window.specs.Laws.{ForgottenStaysOutside, ForgettingChangesNoVerdict, UnsignedIsHeld, AreAdmitted, KeptIsBounded}
+use Rattle.nonce_window.specs.Laws.{ForgottenStaysOutside, ForgettingChangesNoVerdict, UnsignedIsHeld, AreAdmitted, LiveIsBounded, KeptIsBounded}
 use Rattle.nonce_window.proofs.LaterLemmas.{still, still-earlier, live-cons_same, live-cons_out, length-live_later}
 use Rattle.nonce_window.proofs.PushLemmas.{inside_is_still, stands-live, live-push, length-live_push}
 use Rattle.nonce_window.proofs.HeldLemmas.{same_verdict, new_parts}
@@ -54,18 +54,22 @@ unfolding AreAdmitted
 admitted_le limit now high held [] admitted = admitted
 admitted_le limit now high held (e ∷ es) admitted = omega (arith, admitted.0, admitted_le limit now e.moment (held ++ e ∷ []) es admitted.2)
 
-pub kept_is_bounded : KeptIsBounded
+pub live_is_bounded : LiveIsBounded
 unfolding AreAdmitted
-kept_is_bounded limit now high held [] admitted key =
+live_is_bounded limit now high held [] admitted key =
     let same = ap (λ es. length (live es key now)) (append-nil held) in
     omega (arith, same)
-kept_is_bounded limit now high held (e ∷ es) admitted key =
+live_is_bounded limit now high held (e ∷ es) admitted key =
     let behind = admitted_le limit now e.moment (held ++ e ∷ []) es admitted.2 in
     let one = length-live_push held e key now (max limit (length (live held key now))) (omega arith)
     (λ _ owner.
     let below = (new_parts held e.key (stamp_of e) e.moment limit admitted.1).below in
     let at_key = subst (λ k. length (live held k e.moment) < limit) owner below in
     omega (arith, at_key, length-live_later held key e.moment now behind)) in
-    let rest = kept_is_bounded limit now e.moment (held ++ e ∷ []) es admitted.2 key in
+    let rest = live_is_bounded limit now e.moment (held ++ e ∷ []) es admitted.2 key in
     let same = ap (λ xs. length (live xs key now)) (append_assoc held (e ∷ []) es) in
     omega (arith, one, rest, same)
+
+pub kept_is_bounded : KeptIsBounded
+kept_is_bounded window high loaded admitted held are_admitted key count counts =
+    omega (arith, counts (loaded ++ admitted) held, live_is_bounded window.limit window.high high loaded admitted are_admitted key)

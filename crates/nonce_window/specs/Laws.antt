@@ -5,6 +5,7 @@ use Rattle.lti_machine.specs.declared.entry.Entry.{Entry}
 use Rattle.lti_machine.specs.declared.verdict.Verdict.TheVariants.{New}
 use Rattle.lti_machine.specs.Nonces.{Stamp, stamp_of, same_stamp, is_signed, is_inside, is_live, live, stands, verdict}
 use Rattle.nonce_window.specs.Window.{WindowValue, Holds}
+use Rattle.nonce_window.specs.Words.{Counts}
 
 -- a stamp that stands in the list and isn't live at a moment is outside then and at every later moment
 abbrev pub ForgottenStaysOutside : Type 0
@@ -36,7 +37,14 @@ AreAdmitted limit now high held (entry ∷ entries) =
 
 -- where nothing is loaded after the first nonce was admitted, a key has no more live stamps than the limit, or than
 -- the loaded entries alone give it
-abbrev pub KeptIsBounded : Type 0
-KeptIsBounded =
+abbrev pub LiveIsBounded : Type 0
+LiveIsBounded =
     (limit now high : ℕ) (loaded admitted : List Entry) → AreAdmitted limit now high loaded admitted → (key : List ℕ)
     → length (live (loaded ++ admitted) key now) ≤ max limit (length (live loaded key now))
+
+-- the same of what a window keeps
+abbrev pub KeptIsBounded : Type 0
+KeptIsBounded =
+    (window : WindowValue) (high : ℕ) (loaded admitted : List Entry) → Holds window (loaded ++ admitted)
+    → AreAdmitted window.limit window.high high loaded admitted → (key : List ℕ) (count : ℕ) → Counts window key count
+    → count ≤ max window.limit (length (live loaded key window.high))

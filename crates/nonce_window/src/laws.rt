@@ -1,5 +1,5 @@
 // What holds of all lists of entries.
-ghost use Rattle.nonce_window.specs.Laws.{ForgottenStaysOutside, ForgettingChangesNoVerdict, UnsignedIsHeld, KeptIsBounded};
+ghost use Rattle.nonce_window.specs.Laws.{ForgottenStaysOutside, ForgettingChangesNoVerdict, UnsignedIsHeld, LiveIsBounded, KeptIsBounded};
 
 /// A nonce that stands in the list and isn't live at a moment has a timestamp that is outside then and at every later moment.
 pub fn forgotten_stays_outside()
@@ -18,6 +18,11 @@ pub fn unsigned_is_held()
 
 /// Where nothing is loaded after the first nonce was admitted, a key never has more live nonces than the limit, or than the
 /// loaded entries alone give it.
+pub fn live_is_bounded()
+    ensures { LiveIsBounded }
+{}
+
+/// So `NonceWindow::kept` never passes the greater of the limit and what the loaded entries alone have live.
 pub fn kept_is_bounded()
     ensures { KeptIsBounded }
 {}

@@ -1,10 +1,10 @@
-use Rattle.std.proofs.Common.{rules, ◌≡◌, ◌≤◌, ◌<◌, ◌^◌, ap, sym, refl, ◌∙◌, arith, length, subst, Some, is_some}
+use Rattle.std.proofs.Common.{rules, ◌≡◌, ◌≤◌, ◌<◌, ◌^◌, ap, sym, ◌∙◌, arith, length, subst, Some, is_some}
 use Rattle.std.proofs.lemmas.Bool.{false≢true}
 use Rattle.lti_machine.specs.Nonces.{Stamp, live, stands}
 use Rattle.lti_machine.proofs.LiveLemmas.{NoRepeats-push}
 use Rattle.nonce_window.specs.Window.{WindowValue, Holds}
 use Rattle.nonce_window.specs.Inside.{ready_of}
-use Rattle.nonce_window.proofs.HeldLemmas.{IsNew, new_parts, held_pushed, few_pushed}
+use Rattle.nonce_window.proofs.HeldLemmas.{IsNew, new_known, held_pushed, few_pushed}
 use Rattle.nonce_window.proofs.ReadyLemmas.{HasOneMore, one_more}
 use Rattle.nonce_window.proofs.window.NonceWindow.admit.Goals as goal
 
@@ -14,7 +14,7 @@ invariant_of-self c =
     let items = c.self.inside.entries.items in
     let is_ready : ready_of c.take-ready.result ≡ Some (c.args.key.now, stamp) = ap ready_of c.take-ready.ensures.value ∙ ap (λ (w : WindowValue). w.ready) c.self.view_is ∙ c.requires.ready in
     let more : HasOneMore items c.keep_ready.new.entries.items c.args.key.now stamp = one_more c.take-ready.result items c.keep_ready.new.entries.items c.args.key.now stamp is_ready c.keep_ready.ensures in
-    let new : IsNew items c.args.key.now stamp c.args.now c.self.inside.limit = subst (λ (w : WindowValue). IsNew w.known c.args.key.now stamp c.args.now w.limit) (sym c.self.view_is) (new_parts c.args.self.now.known c.args.key.now stamp c.args.now c.args.self.now.limit (sym (c.requires.new c.args.self.now.known (λ key. refl)))) in
+    let new : IsNew items c.args.key.now stamp c.args.now c.self.inside.limit = subst (λ (w : WindowValue). IsNew w.known c.args.key.now stamp c.args.now w.limit) (sym c.self.view_is) (new_known c.args.self.now c.args.key.now stamp c.args.now c.requires.new) in
     let later : c.self.inside.highest ≤ c.args.now = rw (ap (λ (w : WindowValue). w.high) c.self.view_is) c.requires.moment in
     let below : length (live items more.entry.key c.args.now) < c.self.inside.limit = subst (λ k. length (live items k c.args.now) < c.self.inside.limit) (sym more.of_key) new.below in
     let fits : c.self.inside.limit < 2 ^ 32 = search rules in
