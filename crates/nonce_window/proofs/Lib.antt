@@ -1,0 +1,6 @@
+pub mod OrderLemmas
+pub mod LaterLemmas
+pub mod PushLemmas
+pub mod HeldLemmas
+pub mod ReadyLemmas
+pub mod LawLemmas

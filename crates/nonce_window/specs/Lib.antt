@@ -1,0 +1,5 @@
+pub mod Window
+pub mod Words
+pub mod Inside
+pub mod Pushed
+pub mod Laws
