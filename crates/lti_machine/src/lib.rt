@@ -8,6 +8,7 @@
 
 mod call;
 mod entry;
+mod nonces;
 mod places;
 mod reply;
 mod rules;
@@ -18,6 +19,7 @@ mod verdict;
 
 pub use call::{Action, Call, GREATEST_MOMENT};
 pub use entry::{Effect, Entry};
+pub use nonces::is_inside;
 pub use reply::Reply;
 pub use solo::Solo;
 pub use verdict::Verdict;

@@ -8,15 +8,10 @@ ghost use Rattle.lti_machine.specs.Places.{IsIndexed};
 
 use crate::call::Call;
 use crate::entry::Entry;
+use crate::nonces::is_inside;
 use crate::places::{Places, hash_of, set_place};
 use crate::verdict::Verdict;
-use lti_outside::{NoMemory, Text};
-
-// How far a timestamp may be from the moment, in seconds.
-const REACH: u64 = 5400;
-
-// For how many whole minutes after its timestamp a nonce is kept.
-const KEPT_MINUTES: u64 = 90;
+use lti_outside::NoMemory;
 
 /// What the list says of the call's nonce at the moment `now`, where each key may have `window` nonces.
 pub(crate) fn judge(
@@ -40,18 +35,11 @@ pub(crate) fn judge(
     if entries.len() < window as usize {
         return Verdict::New;
     }
-    let live = live_count(entries, &call.key, now);
+    let live = live_count(entries, call.key.get(), now);
     if window <= live {
         return Verdict::WindowFull { live };
     }
     Verdict::New
-}
-
-// Whether a timestamp is at most `REACH` seconds before or after `now`.
-fn is_inside(timestamp: u64, now: u64) -> bool
-    ensures { result ≡ nonces.is_inside timestamp now }
-{
-    now.saturating_sub(REACH) <= timestamp && timestamp.saturating_sub(REACH) <= now
 }
 
 // Whether the call's key, timestamp and nonce stand in an entry. Where its hash has no place they don't;
@@ -83,23 +71,15 @@ fn stands_anywhere(entries: &[Entry], call: &Call) -> bool
     entries.iter().any(|entry| uses(entry, call))
 }
 
-// Whether an entry uses up the call's nonce. The timestamps come first, since they differ most often and
-// are compared at once.
+// Whether an entry uses up the call's nonce.
 fn uses(entry: &Entry, call: &Call) -> bool
     ensures { result ≡ nonces.uses call.now.key (nonces.stamp_of_call call.now) entry.now }
 {
-    call.timestamp == entry.timestamp && call.nonce == entry.nonce && is_of_key(entry, &call.key)
-}
-
-// Whether a signed entry has this key.
-fn is_of_key(entry: &Entry, key: &Text) -> bool
-    ensures { result ≡ nonces.is_of_key key.now entry.now }
-{
-    !entry.nonce.get().is_empty() && entry.key == *key
+    entry.uses(call.key.get(), call.timestamp, call.nonce.get())
 }
 
 // How many nonces of this key aren't forgotten.
-fn live_count(entries: &[Entry], key: &Text, now: u64) -> u32
+fn live_count(entries: &[Entry], key: &str, now: u64) -> u32
     requires { IsKept entries.now }
     ensures { result ≡ length (nonces.live entries.now key.now now) }
 {
@@ -107,22 +87,14 @@ fn live_count(entries: &[Entry], key: &Text, now: u64) -> u32
 }
 
 // How many entries of this key aren't forgotten.
-fn live_entries(entries: &[Entry], key: &Text, now: u64) -> usize
+fn live_entries(entries: &[Entry], key: &str, now: u64) -> usize
     ensures count { result ≡ count_by (nonces.is_live key.now now) entries.now }
     ensures bound { result ≤ length entries.now }
 {
     entries
         .iter()
-        .filter(|entry| is_live(entry, key, now))
+        .filter(|entry| entry.is_live(key, now))
         .count()
-}
-
-// Whether a signed entry of this key isn't forgotten.
-fn is_live(entry: &Entry, key: &Text, now: u64) -> bool
-    ensures { result ≡ nonces.is_live key.now now entry.now }
-{
-    let timestamp = entry.timestamp;
-    now / 60 <= timestamp / 60 + KEPT_MINUTES && is_of_key(entry, key)
 }
 
 /// Adds an entry whose key, timestamp and nonce don't stand in the list, and its place. On `NoMemory` the

@@ -4,15 +4,9 @@ ghost use Rattle.lti_machine.specs.Nonces as nonces;
 ghost use Rattle.lti_machine.specs.Kept.{NoRepeats};
 ghost use Rattle.nonce_window.specs.Pushed.{IsPushed};
 
-use lti_machine::{Effect, Entry, Verdict};
+use lti_machine::{Effect, Entry, Verdict, is_inside};
 use lti_outside::{NoMemory, Text};
 use std::alloc::Global;
-
-// How far a timestamp may be from the moment, in seconds.
-const REACH: u64 = 5400;
-
-// For how many whole minutes after its timestamp a nonce is kept.
-const KEPT_MINUTES: u64 = 90;
 
 /// What the list says of a nonce at the moment `now`, where a key may have `limit` nonces.
 pub(crate) fn judge(
@@ -40,34 +34,13 @@ pub(crate) fn judge(
     Verdict::New
 }
 
-// Whether a timestamp is at most `REACH` seconds before or after `now`.
-fn is_inside(timestamp: u64, now: u64) -> bool
-    ensures { result ≡ nonces.is_inside timestamp now }
-{
-    now.saturating_sub(REACH) <= timestamp && timestamp.saturating_sub(REACH) <= now
-}
-
 /// Whether an entry uses up this nonce of this key.
 pub(crate) fn stands(entries: &[Entry], key: &str, timestamp: u64, nonce: &str) -> bool
     ensures { result ≡ nonces.stands entries.now key.now (record { timestamp = timestamp; nonce = nonce.now }) }
 {
     entries
         .iter()
-        .any(|entry| uses(entry, key, timestamp, nonce))
-}
-
-// Whether an entry uses up this nonce of this key.
-fn uses(entry: &Entry, key: &str, timestamp: u64, nonce: &str) -> bool
-    ensures { result ≡ nonces.uses key.now (record { timestamp = timestamp; nonce = nonce.now }) entry.now }
-{
-    timestamp == entry.timestamp && nonce == entry.nonce.get() && is_of_key(entry, key)
-}
-
-// Whether a signed entry has this key.
-fn is_of_key(entry: &Entry, key: &str) -> bool
-    ensures { result ≡ nonces.is_of_key key.now entry.now }
-{
-    !entry.nonce.get().is_empty() && entry.key.get() == key
+        .any(|entry| entry.uses(key, timestamp, nonce))
 }
 
 /// How many nonces of this key aren't forgotten at the moment `now`.
@@ -86,16 +59,8 @@ fn live_entries(entries: &[Entry], key: &str, now: u64) -> usize
 {
     entries
         .iter()
-        .filter(|entry| is_live(entry, key, now))
+        .filter(|entry| entry.is_live(key, now))
         .count()
-}
-
-// Whether a signed entry of this key isn't forgotten.
-fn is_live(entry: &Entry, key: &str, now: u64) -> bool
-    ensures { result ≡ nonces.is_live key.now now entry.now }
-{
-    let timestamp = entry.timestamp;
-    now / 60 <= timestamp / 60 + KEPT_MINUTES && is_of_key(entry, key)
 }
 
 /// Adds an entry of this nonce, unless one stands already, and leaves room for another one. On `NoMemory` the list
