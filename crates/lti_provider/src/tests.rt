@@ -30,19 +30,23 @@ fn is_launch(
     texts: &[(&str, &str)],
     wanted: (&str, &str, &str, &str),
 ) -> Result<bool, Fail> {
-    let Ok(Action::Launch {
-        link,
-        user,
-        sourced_id,
-        service,
-    }) = call(alloc, texts)?
+    let Ok(
+        Action::Launch {
+            link,
+            user,
+            sourced_id,
+            service,
+        },
+    ) = call(alloc, texts)?
     else {
         return Ok(false);
     };
-    Ok(link.get() == wanted.0
-        && user.get() == wanted.1
-        && sourced_id.get() == wanted.2
-        && service.get() == wanted.3)
+    Ok(
+        link.get() == wanted.0
+            && user.get() == wanted.1
+            && sourced_id.get() == wanted.2
+            && service.get() == wanted.3,
+    )
 }
 
 #[test]
@@ -54,7 +58,10 @@ fn a_launch_is_noted_with_its_four_texts(rt: HostRuntime) -> Result<(), Fail> {
         ("resource_link_id", "1"),
         ("resource_link_title", "Quiz"),
         ("lis_result_sourcedid", "3124567"),
-        ("lis_outcome_service_url", "https://lms.example/lti/outcomes"),
+        (
+            "lis_outcome_service_url",
+            "https://lms.example/lti/outcomes",
+        ),
         ("custom_level", "1"),
         ("oauth_consumer_key", "12345"),
         ("lti_version", "LTI-1p0"),

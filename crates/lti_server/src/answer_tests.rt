@@ -273,7 +273,15 @@ fn what_a_launch_is_answered(rt: HostRuntime) -> Result<(), Fail> {
         ),
     ] {
         assert!(rt;
-            is_answered_so(&rt, alloc, text.as_bytes(), 4_096, &usual, 0, want.as_bytes())?,
+            is_answered_so(
+                &rt,
+                alloc,
+                text.as_bytes(),
+                4_096,
+                &usual,
+                0,
+                want.as_bytes()
+            )?,
             "at {want}"
         );
     }

@@ -128,4 +128,3 @@ pub fn route_response(
     let response = plain_response(alloc, status, text)?;
     Ok(response)
 }
-
