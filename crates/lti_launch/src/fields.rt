@@ -1,5 +1,5 @@
 // The parameters of a launch.
-ghost use Rattle.std.specs.Prelude.{◌≡◌, ◌<◌, bytes_eq, slice_get, length};
+ghost use Rattle.std.specs.Prelude.{◌≡◌, ◌<◌, bytes_eq, slice_get, length, map};
 ghost use Rattle.std.specs.List.{find};
 ghost use Rattle.lti_launch.specs.Fields.{all_fields, name_of, place_of, fields_of_length};
 
@@ -81,6 +81,54 @@ const ALL_FIELDS: [LaunchField; 35] = [
     LaunchField::ToolConsumerInstanceContactEmail,
 ];
 
+// Their names, in order.
+const NAMES: [&str; 35] = [
+    "lti_message_type",
+    "lti_version",
+    "resource_link_id",
+    "resource_link_title",
+    "resource_link_description",
+    "user_id",
+    "user_image",
+    "roles",
+    "role_scope_mentor",
+    "context_id",
+    "context_type",
+    "context_title",
+    "context_label",
+    "lis_person_name_given",
+    "lis_person_name_family",
+    "lis_person_name_full",
+    "lis_person_contact_email_primary",
+    "lis_person_sourcedid",
+    "lis_course_offering_sourcedid",
+    "lis_course_section_sourcedid",
+    "lis_result_sourcedid",
+    "lis_outcome_service_url",
+    "launch_presentation_locale",
+    "launch_presentation_document_target",
+    "launch_presentation_css_url",
+    "launch_presentation_width",
+    "launch_presentation_height",
+    "launch_presentation_return_url",
+    "tool_consumer_info_product_family_code",
+    "tool_consumer_info_version",
+    "tool_consumer_instance_guid",
+    "tool_consumer_instance_name",
+    "tool_consumer_instance_description",
+    "tool_consumer_instance_url",
+    "tool_consumer_instance_contact_email",
+];
+
+// The names of all parameters, in order.
+#[tactic(auto, unfolding(crate::specs::Fields::all_fields, crate::specs::Fields::name_of))]
+fn all_names() -> &'static [&'static str]
+    ensures names { map (λ name. name.now) result.now ≡ map name_of all_fields }
+    ensures count { length result.now ≡ 35 }
+{
+    &NAMES
+}
+
 // The parameters whose names have so many bytes.
 #[tactic(auto, unfolding(crate::specs::Fields::fields_of_length, crate::specs::Fields::all_fields, crate::specs::Fields::name_of))]
 fn fields_of_length(count: usize) -> &'static [LaunchField]
@@ -141,48 +189,10 @@ fn first_named(name: &str, fields: &[LaunchField]) -> Option<LaunchField>
 
 impl LaunchField {
     /// The parameter's name, as `resource_link_id`.
-    #[tactic(auto, unfolding(crate::specs::Fields::name_of))]
     pub fn name(self) -> &'static str
         ensures { result.now ≡ name_of self }
     {
-        match self {
-            LaunchField::LtiMessageType => "lti_message_type",
-            LaunchField::LtiVersion => "lti_version",
-            LaunchField::ResourceLinkId => "resource_link_id",
-            LaunchField::ResourceLinkTitle => "resource_link_title",
-            LaunchField::ResourceLinkDescription => "resource_link_description",
-            LaunchField::UserId => "user_id",
-            LaunchField::UserImage => "user_image",
-            LaunchField::Roles => "roles",
-            LaunchField::RoleScopeMentor => "role_scope_mentor",
-            LaunchField::ContextId => "context_id",
-            LaunchField::ContextType => "context_type",
-            LaunchField::ContextTitle => "context_title",
-            LaunchField::ContextLabel => "context_label",
-            LaunchField::LisPersonNameGiven => "lis_person_name_given",
-            LaunchField::LisPersonNameFamily => "lis_person_name_family",
-            LaunchField::LisPersonNameFull => "lis_person_name_full",
-            LaunchField::LisPersonContactEmailPrimary => "lis_person_contact_email_primary",
-            LaunchField::LisPersonSourcedid => "lis_person_sourcedid",
-            LaunchField::LisCourseOfferingSourcedid => "lis_course_offering_sourcedid",
-            LaunchField::LisCourseSectionSourcedid => "lis_course_section_sourcedid",
-            LaunchField::LisResultSourcedid => "lis_result_sourcedid",
-            LaunchField::LisOutcomeServiceUrl => "lis_outcome_service_url",
-            LaunchField::LaunchPresentationLocale => "launch_presentation_locale",
-            LaunchField::LaunchPresentationDocumentTarget => "launch_presentation_document_target",
-            LaunchField::LaunchPresentationCssUrl => "launch_presentation_css_url",
-            LaunchField::LaunchPresentationWidth => "launch_presentation_width",
-            LaunchField::LaunchPresentationHeight => "launch_presentation_height",
-            LaunchField::LaunchPresentationReturnUrl => "launch_presentation_return_url",
-            LaunchField::ToolConsumerInfoProductFamilyCode =>
-                "tool_consumer_info_product_family_code",
-            LaunchField::ToolConsumerInfoVersion => "tool_consumer_info_version",
-            LaunchField::ToolConsumerInstanceGuid => "tool_consumer_instance_guid",
-            LaunchField::ToolConsumerInstanceName => "tool_consumer_instance_name",
-            LaunchField::ToolConsumerInstanceDescription => "tool_consumer_instance_description",
-            LaunchField::ToolConsumerInstanceUrl => "tool_consumer_instance_url",
-            LaunchField::ToolConsumerInstanceContactEmail => "tool_consumer_instance_contact_email",
-        }
+        all_names()[self.place()]
     }
 
     /// The parameter of this name, if it is one. Only names of the same length are compared.

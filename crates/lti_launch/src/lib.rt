@@ -13,6 +13,8 @@ mod kinds;
 mod launch;
 mod laws;
 mod sorted;
+#[cfg(test)]
+mod tests;
 mod writing;
 
 pub use custom_names::custom_name;
