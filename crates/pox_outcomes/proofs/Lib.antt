@@ -14,3 +14,5 @@ pub mod DeclarationLemmas
 pub mod RequestLemmas
 pub mod DocumentLemmas
 pub mod WritingLemmas
+pub mod SpellingLemmas
+pub mod BackLemmas

@@ -12,3 +12,4 @@ pub mod BadRequest
 pub mod Written
 pub mod Refusal
 pub mod Answered
+pub mod Laws

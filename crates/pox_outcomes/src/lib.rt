@@ -3,7 +3,7 @@
 //!
 //! A closed grammar of the bytes says which envelopes there are; `specs/` states it apart from the reader.
 //! Promised: an envelope is read as exactly the outcome that it spells, and bytes that are no envelope are
-//! refused with the number of them that begin one. A request is written as one exact text.
+//! refused with the number of them that begin one. A request is written as one exact text, which is read back.
 #![tactic(auto)]
 
 mod answers;
@@ -11,6 +11,7 @@ mod attributes;
 mod characters;
 mod declaration;
 mod faults;
+mod laws;
 mod leaves;
 mod markup;
 mod outcome;
@@ -26,6 +27,7 @@ mod writing;
 
 pub use answers::{answer_room, write_answer};
 pub use faults::{EnvelopeFault, EnvelopeRefusal};
+pub use laws::written_is_read;
 pub use outcome::{Operation, Outcome};
 pub use requests::read_request;
 pub use told::Told;

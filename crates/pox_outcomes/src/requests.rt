@@ -1,5 +1,5 @@
 // Reading outcome requests (LTI 1.1.1, section 6, and the schema imsoms_v1p0).
-ghost use Rattle.std.specs.Prelude.{◌≡◌, ◌<◌, true, ℕ, List, codes, IfOk, IfErr, MatchResult};
+ghost use Rattle.std.specs.Prelude.{◌≡◌, ◌<◌, ◌==◌, true, ℕ, List, length, codes, IfOk, IfErr, MatchResult};
 ghost use Rattle.pox_outcomes.specs.Language.{Any, Reads};
 ghost use Rattle.pox_outcomes.specs.Markup.{is_plain};
 ghost use Rattle.pox_outcomes.specs.Request as spec;
@@ -146,6 +146,13 @@ fn envelope(alloc: Global, bytes: &[u8]) -> Result<(Outcome, &[u8]), Halt>
     Ok((outcome, behind))
 }
 
+// Whether no byte is left.
+fn is_end(dark: &[u8]) -> bool
+    ensures { result ≡ (length dark.now == 0) }
+{
+    dark.is_empty()
+}
+
 /// The outcome that an envelope asks for (LTI 1.1.1, section 6, and the schema imsoms_v1p0): an XML declaration or
 /// none, the root `imsx_POXEnvelopeRequest` with an attribute `xmlns`, the header with the message identifier, and
 /// one of the three requests. White bytes may stand between tags and round texts.
@@ -157,7 +164,7 @@ pub fn read_request(alloc: Global, bytes: &[u8]) -> Result<Outcome, EnvelopeFaul
     match envelope(alloc, bytes) {
         Ok((outcome, rest)) => {
             let dark = skip_white(rest);
-            if !dark.is_empty() {
+            if !is_end(dark) {
                 return Err(EnvelopeFault::BadEnvelope {
                     at: (bytes.len() - dark.len()) as u64,
                 });

@@ -1,8 +1,11 @@
+ghost use Rattle.pox_outcomes.specs.Answered.{Belongs};
+
 use crate::{
     EnvelopeFault, EnvelopeRefusal, Operation, Outcome, Told, answer_room, read_request,
     write_answer, write_request,
 };
 use lti_outside::{Bytes, Text};
+use score_decimal::Score;
 use std::alloc::Global;
 use std::test::Fail;
 
@@ -157,5 +160,94 @@ fn answers_are_written_within_their_room(rt: HostRuntime) -> Result<(), Fail> {
     let answer =
         "<?xml version=\"1.0\" encoding=\"UTF-8\"?><imsx_POXEnvelopeResponse xmlns=\"http://www.imsglobal.org/services/ltiv1p1/xsd/imsoms_v1p0\"><imsx_POXHeader><imsx_POXResponseHeaderInfo><imsx_version>V1.0</imsx_version><imsx_messageIdentifier>7</imsx_messageIdentifier><imsx_statusInfo><imsx_codeMajor>failure</imsx_codeMajor><imsx_severity>error</imsx_severity><imsx_description>Unknown sourcedId 9&#32;</imsx_description><imsx_messageRefIdentifier>7</imsx_messageRefIdentifier><imsx_operationRefIdentifier>readResult</imsx_operationRefIdentifier></imsx_statusInfo></imsx_POXResponseHeaderInfo></imsx_POXHeader><imsx_POXBody><readResultResponse/></imsx_POXBody></imsx_POXEnvelopeResponse>";
     assert!(rt; out.get() == answer.as_bytes());
+    Ok(())
+}
+
+// Whether the answer to the outcome of message 999999123 is this text.
+fn is_answer(
+    alloc: Global,
+    operation: Operation,
+    id: &str,
+    told: Told,
+    text: &str,
+) -> Result<bool, Fail>
+    requires { Belongs operation told }
+{
+    let outcome = Outcome {
+        message: Text::new(alloc, "999999123")?,
+        operation,
+        sourced_id: Text::new(alloc, id)?,
+        score_text: Text::empty(alloc),
+    };
+    let mut out = Bytes::new(alloc);
+    let room = answer_room(&outcome);
+    if room > 4096 {
+        return Ok(false);
+    }
+    out.reserve(room)?;
+    write_answer(&outcome, told, &mut out);
+    Ok(out.get() == text.as_bytes())
+}
+
+#[test]
+fn each_answer_is_its_text(rt: HostRuntime) -> Result<(), Fail> {
+    let Some(score) = Score::read("0.92") else {
+        assert!(rt; false);
+        return Ok(());
+    };
+    assert!(rt;
+        is_answer(
+            rt.alloc(),
+            Operation::ReplaceResult,
+            "3124567",
+            Told::Replaced(score),
+            "<?xml version=\"1.0\" encoding=\"UTF-8\"?><imsx_POXEnvelopeResponse xmlns=\"http://www.imsglobal.org/services/ltiv1p1/xsd/imsoms_v1p0\"><imsx_POXHeader><imsx_POXResponseHeaderInfo><imsx_version>V1.0</imsx_version><imsx_messageIdentifier>999999123</imsx_messageIdentifier><imsx_statusInfo><imsx_codeMajor>success</imsx_codeMajor><imsx_severity>status</imsx_severity><imsx_description>Score for 3124567 is now 0.92</imsx_description><imsx_messageRefIdentifier>999999123</imsx_messageRefIdentifier><imsx_operationRefIdentifier>replaceResult</imsx_operationRefIdentifier></imsx_statusInfo></imsx_POXResponseHeaderInfo></imsx_POXHeader><imsx_POXBody><replaceResultResponse/></imsx_POXBody></imsx_POXEnvelopeResponse>"
+        )?
+    );
+    assert!(rt;
+        is_answer(
+            rt.alloc(),
+            Operation::ReadResult,
+            "3124567",
+            Told::ReadScore(score),
+            "<?xml version=\"1.0\" encoding=\"UTF-8\"?><imsx_POXEnvelopeResponse xmlns=\"http://www.imsglobal.org/services/ltiv1p1/xsd/imsoms_v1p0\"><imsx_POXHeader><imsx_POXResponseHeaderInfo><imsx_version>V1.0</imsx_version><imsx_messageIdentifier>999999123</imsx_messageIdentifier><imsx_statusInfo><imsx_codeMajor>success</imsx_codeMajor><imsx_severity>status</imsx_severity><imsx_description>Score for 3124567 is 0.92</imsx_description><imsx_messageRefIdentifier>999999123</imsx_messageRefIdentifier><imsx_operationRefIdentifier>readResult</imsx_operationRefIdentifier></imsx_statusInfo></imsx_POXResponseHeaderInfo></imsx_POXHeader><imsx_POXBody><readResultResponse><result><resultScore><language>en</language><textString>0.92</textString></resultScore></result></readResultResponse></imsx_POXBody></imsx_POXEnvelopeResponse>"
+        )?
+    );
+    assert!(rt;
+        is_answer(
+            rt.alloc(),
+            Operation::ReadResult,
+            "3124567",
+            Told::ReadNothing,
+            "<?xml version=\"1.0\" encoding=\"UTF-8\"?><imsx_POXEnvelopeResponse xmlns=\"http://www.imsglobal.org/services/ltiv1p1/xsd/imsoms_v1p0\"><imsx_POXHeader><imsx_POXResponseHeaderInfo><imsx_version>V1.0</imsx_version><imsx_messageIdentifier>999999123</imsx_messageIdentifier><imsx_statusInfo><imsx_codeMajor>success</imsx_codeMajor><imsx_severity>status</imsx_severity><imsx_description>No score for 3124567</imsx_description><imsx_messageRefIdentifier>999999123</imsx_messageRefIdentifier><imsx_operationRefIdentifier>readResult</imsx_operationRefIdentifier></imsx_statusInfo></imsx_POXResponseHeaderInfo></imsx_POXHeader><imsx_POXBody><readResultResponse><result><resultScore><language>en</language><textString></textString></resultScore></result></readResultResponse></imsx_POXBody></imsx_POXEnvelopeResponse>"
+        )?
+    );
+    assert!(rt;
+        is_answer(
+            rt.alloc(),
+            Operation::DeleteResult,
+            "3124567",
+            Told::Deleted,
+            "<?xml version=\"1.0\" encoding=\"UTF-8\"?><imsx_POXEnvelopeResponse xmlns=\"http://www.imsglobal.org/services/ltiv1p1/xsd/imsoms_v1p0\"><imsx_POXHeader><imsx_POXResponseHeaderInfo><imsx_version>V1.0</imsx_version><imsx_messageIdentifier>999999123</imsx_messageIdentifier><imsx_statusInfo><imsx_codeMajor>success</imsx_codeMajor><imsx_severity>status</imsx_severity><imsx_description>Score for 3124567 is deleted</imsx_description><imsx_messageRefIdentifier>999999123</imsx_messageRefIdentifier><imsx_operationRefIdentifier>deleteResult</imsx_operationRefIdentifier></imsx_statusInfo></imsx_POXResponseHeaderInfo></imsx_POXHeader><imsx_POXBody><deleteResultResponse/></imsx_POXBody></imsx_POXEnvelopeResponse>"
+        )?
+    );
+    assert!(rt;
+        is_answer(
+            rt.alloc(),
+            Operation::DeleteResult,
+            "9",
+            Told::UnknownId,
+            "<?xml version=\"1.0\" encoding=\"UTF-8\"?><imsx_POXEnvelopeResponse xmlns=\"http://www.imsglobal.org/services/ltiv1p1/xsd/imsoms_v1p0\"><imsx_POXHeader><imsx_POXResponseHeaderInfo><imsx_version>V1.0</imsx_version><imsx_messageIdentifier>999999123</imsx_messageIdentifier><imsx_statusInfo><imsx_codeMajor>failure</imsx_codeMajor><imsx_severity>error</imsx_severity><imsx_description>Unknown sourcedId 9</imsx_description><imsx_messageRefIdentifier>999999123</imsx_messageRefIdentifier><imsx_operationRefIdentifier>deleteResult</imsx_operationRefIdentifier></imsx_statusInfo></imsx_POXResponseHeaderInfo></imsx_POXHeader><imsx_POXBody><deleteResultResponse/></imsx_POXBody></imsx_POXEnvelopeResponse>"
+        )?
+    );
+    assert!(rt;
+        is_answer(
+            rt.alloc(),
+            Operation::ReplaceResult,
+            "3124567",
+            Told::BadScore,
+            "<?xml version=\"1.0\" encoding=\"UTF-8\"?><imsx_POXEnvelopeResponse xmlns=\"http://www.imsglobal.org/services/ltiv1p1/xsd/imsoms_v1p0\"><imsx_POXHeader><imsx_POXResponseHeaderInfo><imsx_version>V1.0</imsx_version><imsx_messageIdentifier>999999123</imsx_messageIdentifier><imsx_statusInfo><imsx_codeMajor>failure</imsx_codeMajor><imsx_severity>error</imsx_severity><imsx_description>Score for 3124567 is no number from 0 to 1</imsx_description><imsx_messageRefIdentifier>999999123</imsx_messageRefIdentifier><imsx_operationRefIdentifier>replaceResult</imsx_operationRefIdentifier></imsx_statusInfo></imsx_POXResponseHeaderInfo></imsx_POXHeader><imsx_POXBody><replaceResultResponse/></imsx_POXBody></imsx_POXEnvelopeResponse>"
+        )?
+    );
     Ok(())
 }

@@ -1,5 +1,5 @@
 // The text of an element (XML 1.0, sections 2.2, 2.4 and 4.1).
-ghost use Rattle.std.specs.Prelude.{◌≡◌, ◌++◌, ℕ, List, [], true, IsUtf8, OnOk, IfOk, IfErr};
+ghost use Rattle.std.specs.Prelude.{◌≡◌, ◌∷◌, ◌++◌, ℕ, List, [], true, IsUtf8, OnOk, IfOk, IfErr, MatchOption};
 ghost use Rattle.std.specs.Char.{encode_utf8};
 ghost use Rattle.std.specs.List.{list_all};
 ghost use Rattle.std.specs.String.{string_bytes};
@@ -81,12 +81,19 @@ fn push_literal<'a>(text: &mut String, bytes: &'a [u8]) -> Result<&'a [u8], Halt
     Ok(rest)
 }
 
+// What stands behind an `&`, where the bytes begin with one.
+fn after_ampersand(bytes: &[u8]) -> Option<&[u8]>
+    ensures { MatchOption result (BeginsOtherwise 38 bytes.now) (λ rest. bytes.now ≡ 38 ∷ rest.now) }
+{
+    after_byte(bytes, b'&')
+}
+
 // Appends what the unit spells, and answers what stands behind it.
 fn push_unit<'a>(text: &mut String, bytes: &'a [u8]) -> Result<&'a [u8], Halt>
     ensures reads { IfOk result (λ rest. Pushes (string_bytes text.old) (string_bytes text.new) bytes.now rest.now) }
     ensures stops { IfErr result (IsHalt (Any IsUnit) bytes.now) }
 {
-    match after_byte(bytes, b'&') {
+    match after_ampersand(bytes) {
         Some(_) => push_reference(text, bytes),
         None => push_literal(text, bytes),
     }

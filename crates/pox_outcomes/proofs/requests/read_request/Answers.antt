@@ -14,32 +14,32 @@ overflow_sub-result c =
     let w = white_of rest in
     rest_le c.args.bytes.now rest w.run c.skip_white-dark.result.now c.in-Ok.outcome c.in-Ok.ensures.reads (w.are ∙ ap (λ (t : List ℕ). w.run ++ t) (sym c.skip_white-dark.ensures))
 
-pub returns-then-not-is_empty-clause-bad : goal.returns-then-not-is_empty-clause-bad
-returns-then-not-is_empty-clause-bad c =
+pub returns-then-not-is_end-clause-bad : goal.returns-then-not-is_end-clause-bad
+returns-then-not-is_end-clause-bad c =
     let rest = c.in-Ok.rest.now in
     let w = white_of rest in
     bad_rest c.args.bytes.now rest w.run c.skip_white-dark.result.now c.in-Ok.outcome _ c.in-Ok.ensures.reads (w.are ∙ ap (λ (t : List ℕ). w.run ++ t) (sym c.skip_white-dark.ensures)) w.is
-    (subst (IsOutside is_white) (sym c.skip_white-dark.ensures) w.outside) (sym c.is_empty.ensures ∙ c.if-not-is_empty.true) refl
+    (subst (IsOutside is_white) (sym c.skip_white-dark.ensures) w.outside) (sym c.is_end.ensures ∙ c.if-not-is_end.true) refl
 
-pub returns-then-not-is_empty-clause-only : goal.returns-then-not-is_empty-clause-only
-returns-then-not-is_empty-clause-only c = λ o d.
+pub returns-then-not-is_end-clause-only : goal.returns-then-not-is_end-clause-only
+returns-then-not-is_end-clause-only c = λ o d.
     let rest = c.in-Ok.rest.now in
     let w = white_of rest in
     let bad = bad_rest c.args.bytes.now rest w.run c.skip_white-dark.result.now c.in-Ok.outcome (length c.args.bytes.now - length c.skip_white-dark.result.now) c.in-Ok.ensures.reads (w.are ∙ ap (λ (t : List ℕ). w.run ++ t) (sym c.skip_white-dark.ensures)) w.is
-    (subst (IsOutside is_white) (sym c.skip_white-dark.ensures) w.outside) (sym c.is_empty.ensures ∙ c.if-not-is_empty.true) refl in
+    (subst (IsOutside is_white) (sym c.skip_white-dark.ensures) w.outside) (sym c.is_end.ensures ∙ c.if-not-is_end.true) refl in
     absurd (bad.none o d)
 
-pub returns-else-not-is_empty-clause-outcome : goal.returns-else-not-is_empty-clause-outcome
-returns-else-not-is_empty-clause-outcome c =
+pub returns-else-not-is_end-clause-outcome : goal.returns-else-not-is_end-clause-outcome
+returns-else-not-is_end-clause-outcome c =
     let rest = c.in-Ok.rest.now in
     let w = white_of rest in
-    good_rest c.args.bytes.now rest w.run c.skip_white-dark.result.now c.in-Ok.outcome c.in-Ok.ensures.reads (w.are ∙ ap (λ (t : List ℕ). w.run ++ t) (sym c.skip_white-dark.ensures)) w.is (sym c.is_empty.ensures ∙ c.if-not-is_empty.false)
+    good_rest c.args.bytes.now rest w.run c.skip_white-dark.result.now c.in-Ok.outcome c.in-Ok.ensures.reads (w.are ∙ ap (λ (t : List ℕ). w.run ++ t) (sym c.skip_white-dark.ensures)) w.is (sym c.is_end.ensures ∙ c.if-not-is_end.false)
 
-pub returns-else-not-is_empty-clause-only : goal.returns-else-not-is_empty-clause-only
-returns-else-not-is_empty-clause-only c = λ o d.
+pub returns-else-not-is_end-clause-only : goal.returns-else-not-is_end-clause-only
+returns-else-not-is_end-clause-only c = λ o d.
     let rest = c.in-Ok.rest.now in
     let w = white_of rest in
-    let good = good_rest c.args.bytes.now rest w.run c.skip_white-dark.result.now c.in-Ok.outcome c.in-Ok.ensures.reads (w.are ∙ ap (λ (t : List ℕ). w.run ++ t) (sym c.skip_white-dark.ensures)) w.is (sym c.is_empty.ensures ∙ c.if-not-is_empty.false) in
+    let good = good_rest c.args.bytes.now rest w.run c.skip_white-dark.result.now c.in-Ok.outcome c.in-Ok.ensures.reads (w.are ∙ ap (λ (t : List ℕ). w.run ++ t) (sym c.skip_white-dark.ensures)) w.is (sym c.is_end.ensures ∙ c.if-not-is_end.false) in
     document_once c.args.bytes.now c.in-Ok.outcome o good d
 
 pub returns-in-Err-Stopped-clause-bad : goal.returns-in-Err-Stopped-clause-bad
