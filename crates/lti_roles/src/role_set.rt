@@ -39,6 +39,8 @@ impl RoleSet {
     /// The text is cut at commas, and an element loses the spaces, but no other blanks, at both ends. Empty ones are
     /// skipped. An element is known where it is a prefix of appendix A and a name of that family, or the name of a
     /// context role alone, and then nothing, or `/` and a sub-role of any bytes but none. Upper and lower case differ.
+    ///
+    /// Costs one pass over the text, and keeps a copy of each element and of its sub-role.
     pub fn read(alloc: Global, text: &str) -> Result<RoleSet, NoMemory>
         ensures { IfOk result (λ roles. roles ≡ roles_of text.now) }
     {
