@@ -55,7 +55,10 @@ impl Launch {
     ghost use Rattle.lti_launch.specs.Roles.{roles_in};
     ghost use Rattle.lti_launch.specs.Laws.{Spells};
 
-    /// The launch that the pairs of a message spell, or the first fault that they have. The pairs are gone over once.
+    /// The launch that the pairs of a message spell, or the first fault that they have.
+    ///
+    /// The pairs are gone over once. A name is compared with the parameters' names of its own length alone, four at most,
+    /// and each value that is kept is copied once. Parameters of the signature are passed over, whatever they say.
     pub fn read(alloc: Global, pairs: &Pairs) -> Result<Launch, LaunchFault>
         ensures launch { IfOk result (λ launch. launch ≡ launch_of pairs.now) }
         ensures faultless { OnOk result (fault_of pairs.now ≡ None) }
