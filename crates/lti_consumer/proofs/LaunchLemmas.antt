@@ -1,6 +1,6 @@
 -- What the tool's end reads in a launch form that is posted.
-use Rattle.std.proofs.Common.{◌≡◌, ℕ, ◌≤◌, ◌==◌, nat_lt, Bool, true, false, not, ◌||◌, cond, List, [], ◌∷◌, ◌++◌, length, append-nil, refl, sym, ap, ◌∙◌, subst, Some, None, arith}
-use Rattle.std.specs.List.{find, list_any}
+use Rattle.std.proofs.Common.{◌≡◌, ℕ, ◌≤◌, ◌==◌, nat_lt, Bool, false, List, [], ◌∷◌, ◌++◌, length, append-nil, refl, sym, ap, ◌∙◌, None, arith}
+use Rattle.std.specs.List.{find}
 use Rattle.std.proofs.lemmas.Bool.Decides.{nat_tests}
 use Rattle.lti_outside.specs.declared.pairs.Pair.{Pair}
 use Rattle.oauth_text.specs.Form.{pairs_of}
@@ -18,7 +18,6 @@ use Rattle.lti_launch.specs.declared.fields.LaunchField.{LaunchField}
 use Rattle.lti_launch.specs.declared.fields.LaunchField.TheVariants.{LtiMessageType, LtiVersion, ResourceLinkId, UserId, LisResultSourcedid, LisOutcomeServiceUrl}
 use Rattle.lti_launch.proofs.ValueLemmas.{values-append}
 use Rattle.lti_launch.proofs.LaunchLemmas.{faultless_join, value_stands}
-use Rattle.lti_machine.specs.declared.call.Action.{Action}
 use Rattle.lti_machine.specs.declared.call.Action.TheVariants as action
 use Rattle.lti_provider.specs.Calls.{text_in, text_of, IsLaunchCall}
 use Rattle.lti_consumer.specs.Launches.{launch_fields, launch_action}
@@ -84,7 +83,7 @@ module _ (terms : Terms) (pairs : List Pair) (stand : Stand terms pairs) where
   call some = record {
     faultless = faultless some;
     action_is = λ i. action.Launch (sym (text_is ResourceLinkId) i) (sym (text_is UserId ∙ text_alone terms.user) i)
-    (sym (text_is LisResultSourcedid ∙ text_alone terms.sourced_id) i) (sym (text_is LisOutcomeServiceUrl ∙ text_alone terms.service) i);
+        (sym (text_is LisResultSourcedid ∙ text_alone terms.sourced_id) i) (sym (text_is LisOutcomeServiceUrl ∙ text_alone terms.service) i);
   }
 
 protocol_stands : (field : LaunchField) (key nonce : List ℕ) (moment : ℕ) → values field (protocol_pairs key moment nonce) ≡ []
@@ -126,7 +125,11 @@ sent_stands url terms form key secret nonce moment q free made posts field =
     ∙ form_stands terms key nonce made.text moment field
 
 pub launch_is_noted : LaunchIsNoted
-launch_is_noted other url terms form key secret nonce moment q some can are free made posts = record {
-  believed = signed_is_believed.0 other url (launch_fields terms) form key secret nonce moment q can (holds_none terms) are made posts;
-  call = call terms (checked.parameters q) (sent_stands url terms form key secret nonce moment q free made posts) some;
-}
+launch_is_noted other url terms form key secret nonce moment q some can are free made posts =
+    let believed = signed_is_believed.0 other url (launch_fields terms) form key secret nonce moment q can (holds_none terms) are made posts in
+    let asks = call terms (checked.parameters q) (sent_stands url terms form key secret nonce moment q free made posts) some in
+    record {
+      believed = believed;
+      call = asks;
+      asked = λ routed. record { routed = routed; well_signed = believed.well_signed; says = believed.says; call = asks };
+    }

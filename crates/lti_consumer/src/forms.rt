@@ -13,12 +13,7 @@ use oauth_text::Url;
 use std::alloc::Global;
 
 // Appends a parameter.
-fn push(
-    fields: &mut Pairs,
-    alloc: Global,
-    field: LaunchField,
-    value: &str,
-) -> Result<(), NoMemory>
+fn push(fields: &mut Pairs, alloc: Global, field: LaunchField, value: &str) -> Result<(), NoMemory>
     ensures { OnOk result (fields.new ≡ fields.old ++ (record { name = name_of field; value = value.now }) ∷ []) }
 {
     fields.push(Pair {
@@ -48,12 +43,32 @@ fn launch_fields(alloc: Global, terms: &Terms) -> Result<Pairs, NoMemory>
     ensures { IfOk result (λ fields. fields ≡ spec.launch_fields terms.now) }
 {
     let mut fields = Pairs::new(alloc);
-    push(&mut fields, alloc, LaunchField::LtiMessageType, "basic-lti-launch-request")?;
+    push(
+        &mut fields,
+        alloc,
+        LaunchField::LtiMessageType,
+        "basic-lti-launch-request",
+    )?;
     push(&mut fields, alloc, LaunchField::LtiVersion, "LTI-1p0")?;
-    push(&mut fields, alloc, LaunchField::ResourceLinkId, terms.link.get())?;
+    push(
+        &mut fields,
+        alloc,
+        LaunchField::ResourceLinkId,
+        terms.link.get(),
+    )?;
     push_given(&mut fields, alloc, LaunchField::UserId, terms.user.get())?;
-    push_given(&mut fields, alloc, LaunchField::LisResultSourcedid, terms.sourced_id.get())?;
-    push_given(&mut fields, alloc, LaunchField::LisOutcomeServiceUrl, terms.service.get())?;
+    push_given(
+        &mut fields,
+        alloc,
+        LaunchField::LisResultSourcedid,
+        terms.sourced_id.get(),
+    )?;
+    push_given(
+        &mut fields,
+        alloc,
+        LaunchField::LisOutcomeServiceUrl,
+        terms.service.get(),
+    )?;
     Ok(fields)
 }
 
