@@ -110,6 +110,12 @@ form_stands terms key nonce text moment field =
     ∙ more_stand field (launch_fields terms) protocol (protocol_stands field key nonce moment)
     ∙ fields_stand terms field
 
+-- the form as it stands
+pub form_call : (url : UrlParts) (terms : Terms) (form : List Pair) (key secret nonce : List ℕ) (moment : ℕ) → 1 ≤ length terms.link
+    → IsSignedForm url (launch_fields terms) key secret moment nonce form → IsLaunchCall form (launch_action terms)
+form_call url terms form key secret nonce moment some made =
+    call terms form (λ field. ap (values field) made.is ∙ form_stands terms key nonce made.text moment field) some
+
 -- what the other end sees
 all_is : (url : UrlParts) (form : List Pair) (q : RequestParts) → PostsForm url form q → checked.all_pairs q ≡ pairs_of url.query ++ form
 all_is url form q posts =

@@ -3,6 +3,7 @@ ghost use Rattle.std.specs.Prelude.{◌≡◌, ◌≤◌, ◌∷◌, ◌++◌, [
 ghost use Rattle.oauth_text.specs.UrlView.{parts_of};
 ghost use Rattle.oauth_request.specs.Signing.{CanSign, IsSignedForm};
 ghost use Rattle.lti_launch.specs.Fields.{name_of};
+ghost use Rattle.lti_provider.specs.Calls.{IsLaunchCall};
 ghost use Rattle.lti_consumer.specs.Launches as spec;
 
 use crate::Terms;
@@ -89,8 +90,10 @@ pub fn launch_form(
 ) -> Result<Pairs, NoMemory>
     requires link { 1 ≤ length terms.now.link }
     requires signer { CanSign key.now moment nonce.now }
-    ensures { IfOk result (IsSignedForm (parts_of url.now) (spec.launch_fields terms.now) key.now secret.now moment nonce.now) }
+    ensures signed { IfOk result (IsSignedForm (parts_of url.now) (spec.launch_fields terms.now) key.now secret.now moment nonce.now) }
+    ensures launch { IfOk result (λ form. IsLaunchCall form (spec.launch_action terms.now)) }
 {
     let fields = launch_fields(alloc, terms)?;
-    sign_form(alloc, url, &fields, key, secret, moment, nonce)
+    let form = sign_form(alloc, url, &fields, key, secret, moment, nonce)?;
+    Ok(form)
 }
