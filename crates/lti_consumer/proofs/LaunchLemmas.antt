@@ -111,10 +111,12 @@ form_stands terms key nonce text moment field =
     ∙ fields_stand terms field
 
 -- the form as it stands
-pub form_call : (url : UrlParts) (terms : Terms) (form : List Pair) (key secret nonce : List ℕ) (moment : ℕ) → 1 ≤ length terms.link
-    → IsSignedForm url (launch_fields terms) key secret moment nonce form → IsLaunchCall form (launch_action terms)
-form_call url terms form key secret nonce moment some made =
-    call terms form (λ field. ap (values field) made.is ∙ form_stands terms key nonce made.text moment field) some
+pub form_call : {url : UrlParts} {fields form : List Pair} {key secret nonce : List ℕ} {moment : ℕ} (terms : Terms) → 1 ≤ length terms.link
+    → fields ≡ launch_fields terms → IsSignedForm url fields key secret moment nonce form → IsLaunchCall form (launch_action terms)
+form_call {url = url} {fields = fields} {form = form} {key = key} {secret = secret} {nonce = nonce} {moment = moment} terms some are made =
+    let same : form ≡ form_pairs (launch_fields terms) key moment nonce ++ pair signature_name made.text ∷ []
+    = made.is ∙ ap (λ (ps : List Pair). form_pairs ps key moment nonce ++ pair signature_name made.text ∷ []) are in
+    call terms form (λ field. ap (values field) same ∙ form_stands terms key nonce made.text moment field) some
 
 -- what the other end sees
 all_is : (url : UrlParts) (form : List Pair) (q : RequestParts) → PostsForm url form q → checked.all_pairs q ≡ pairs_of url.query ++ form
