@@ -6,7 +6,8 @@ use Rattle.pox_outcomes.specs.Markup.{word_at}
 use Rattle.pox_outcomes.specs.Characters.{is_within, IsCharacter}
 use Rattle.pox_outcomes.specs.Attributes.{is_value_byte, IsValue, closes, holds, IsAttribute, IsAttributes, ends, goes}
 use Rattle.pox_outcomes.specs.Declaration.{encodings, parts, IsEncoding, IsAfterVersion, versions, IsDeclaration, IsOpening}
-use Rattle.pox_outcomes.specs.Request.{root, header, operations, place_of, scores, IsBehindLanguage, replace_end, read_end, delete_end, IsTextString, IsTail, IsEnvelope}
+use Rattle.pox_outcomes.specs.Scores.{IsBehindLanguage, IsTextString}
+use Rattle.pox_outcomes.specs.Request.{root, header, operations, place_of, scores, replace_end, read_end, delete_end, IsTail, IsEnvelope}
 use Rattle.pox_outcomes.specs.Written.{IsXmlText, none, one, escape_part, escape_text, request_start, asked, request_end, request_text, IsXml}
 use Rattle.pox_outcomes.specs.Laws.{IsFitting, WrittenIsRead}
 use Rattle.pox_outcomes.specs.declared.outcome.Operation.{Operation}
