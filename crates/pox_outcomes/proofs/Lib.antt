@@ -24,3 +24,4 @@ pub mod EndLemmas
 pub mod WritingLemmas
 pub mod SpellingLemmas
 pub mod BackLemmas
+pub mod AnswerBackLemmas

@@ -3,8 +3,8 @@
 //!
 //! A closed grammar of the bytes says which envelopes there are; `specs/` states it apart from the reader.
 //! Promised: a request is read as exactly the outcome that it spells, and an answer as exactly what it says; other
-//! bytes are refused with the number of them that begin one. A request is written as one exact text, which is
-//! read back, and an answer as one exact text.
+//! bytes are refused with the number of them that begin one. Requests and answers are written as one exact text
+//! each, which is read back.
 #![tactic(auto)]
 
 mod answer;
@@ -35,7 +35,7 @@ mod writing;
 pub use answer::{Answer, Major};
 pub use answers::{answer_room, write_answer};
 pub use faults::{EnvelopeFault, EnvelopeRefusal};
-pub use laws::written_is_read;
+pub use laws::{written_answer_is_read, written_is_read};
 pub use outcome::{Operation, Outcome};
 pub use requests::read_request;
 pub use responses::read_answer;
