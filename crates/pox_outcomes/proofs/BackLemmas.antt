@@ -6,7 +6,8 @@ use Rattle.pox_outcomes.specs.Markup.{word_at}
 use Rattle.pox_outcomes.specs.Characters.{is_within, IsCharacter}
 use Rattle.pox_outcomes.specs.Attributes.{is_value_byte, IsValue, closes, holds, IsAttribute, IsAttributes, ends, goes}
 use Rattle.pox_outcomes.specs.Declaration.{encodings, parts, IsEncoding, IsAfterVersion, versions, IsDeclaration, IsOpening}
-use Rattle.pox_outcomes.specs.Request.{root, header, operations, place_of, scores, IsBehindLanguage, replace_end, read_end, delete_end, IsTextString, IsTail, IsEnvelope}
+use Rattle.pox_outcomes.specs.Scores.{IsBehindLanguage, IsTextString}
+use Rattle.pox_outcomes.specs.Request.{root, header, operations, place_of, scores, replace_end, read_end, delete_end, IsTail, IsEnvelope}
 use Rattle.pox_outcomes.specs.Written.{IsXmlText, none, one, escape_part, escape_text, request_start, asked, request_end, request_text, IsXml}
 use Rattle.pox_outcomes.specs.Laws.{IsFitting, WrittenIsRead}
 use Rattle.pox_outcomes.specs.declared.outcome.Operation.{Operation}
@@ -37,7 +38,7 @@ version_written = inr (record {
   second = (0, omega arith, record { front = codes "encoding=\""; back = codes "UTF-8\"?>"; are = refl; first = bare_markup (word_at parts 0); second = encoding_written });
 })
 
-declaration_written : IsDeclaration (codes " version=\"1.0\" encoding=\"UTF-8\"?>")
+pub declaration_written : IsDeclaration (codes " version=\"1.0\" encoding=\"UTF-8\"?>")
 declaration_written = record {
   front = codes " ";
   back = codes "version=\"1.0\" encoding=\"UTF-8\"?>";
@@ -71,7 +72,7 @@ value_written (b ∷ value) all =
 abbrev namespace : List ℕ
 namespace = codes "http://www.imsglobal.org/services/ltiv1p1/xsd/imsoms_v1p0"
 
-abbrev attributes : List ℕ
+abbrev pub attributes : List ℕ
 attributes = codes " xmlns=\"http://www.imsglobal.org/services/ltiv1p1/xsd/imsoms_v1p0\">"
 
 attribute_written : IsAttribute (codes "xmlns") (codes "xmlns=\"http://www.imsglobal.org/services/ltiv1p1/xsd/imsoms_v1p0\"")
@@ -88,7 +89,7 @@ attribute_written = record {
   };
 }
 
-attributes_written : IsAttributes false attributes
+pub attributes_written : IsAttributes false attributes
 attributes_written =
     goes (codes " ") (codes "xmlns") (codes "xmlns=\"http://www.imsglobal.org/services/ltiv1p1/xsd/imsoms_v1p0\"") (codes ">") refl refl attribute_written (ends refl (bare_markup (codes " >"))) refl
 
@@ -103,14 +104,14 @@ en_written : escape_text (codes "en") ≡ codes "en"
 unfolding escape_part
 en_written = refl
 
-abbrev language : List ℕ
+abbrev pub language : List ℕ
 language = codes ">" ++ ((escape_text (codes "en") ++ codes "<") ++ bare (codes "/language >"))
 
-language_is : language ≡ codes ">en</language>"
+pub language_is : language ≡ codes ">en</language>"
 language_is = ap (λ t. codes ">" ++ ((t ++ codes "<") ++ bare (codes "/language >"))) en_written
 
 -- a leaf of the text
-abbrev leaf : List ℕ → List ℕ → List ℕ
+abbrev pub leaf : List ℕ → List ℕ → List ℕ
 leaf closing text = codes ">" ++ ((escape_text text ++ codes "<") ++ bare closing)
 
 abbrev tail_text : Operation → List ℕ → List ℕ
@@ -118,17 +119,17 @@ tail_text ReplaceResult score = bare (word_at scores 0) ++ (language ++ (codes "
 tail_text ReadResult score = bare read_end
 tail_text DeleteResult score = bare delete_end
 
-string_written : (score : List ℕ) → IsXmlText score → IsTextString replace_end score (leaf (codes "/textString >") score ++ bare replace_end)
-string_written score is = record { front = leaf (codes "/textString >") score; back = bare replace_end; are = refl; first = leaf_written (codes "/textString >") score is; second = bare_markup replace_end }
+string_written : (closing score : List ℕ) → IsXmlText score → IsTextString closing score (leaf (codes "/textString >") score ++ bare closing)
+string_written closing score is = record { front = leaf (codes "/textString >") score; back = bare closing; are = refl; first = leaf_written (codes "/textString >") score is; second = bare_markup closing }
 
-behind_written : (score : List ℕ) → IsXmlText score → IsBehindLanguage replace_end score (language ++ (codes "<textString" ++ (leaf (codes "/textString >") score ++ bare replace_end)))
-behind_written score is = record {
+pub behind_written : (closing score : List ℕ) → IsXmlText score → IsBehindLanguage closing score (language ++ (codes "<textString" ++ (leaf (codes "/textString >") score ++ bare closing)))
+behind_written closing score is = record {
   front = language;
-  back = codes "<textString" ++ (leaf (codes "/textString >") score ++ bare replace_end);
+  back = codes "<textString" ++ (leaf (codes "/textString >") score ++ bare closing);
   are = refl;
   first = (codes "en", leaf_written (codes "/language >") (codes "en") xml_en);
   second =
-      record { front = codes "<textString"; back = leaf (codes "/textString >") score ++ bare replace_end; are = refl; first = bare_markup (codes " <textString"); second = string_written score is };
+      record { front = codes "<textString"; back = leaf (codes "/textString >") score ++ bare closing; are = refl; first = bare_markup (codes " <textString"); second = string_written closing score is };
 }
 
 no_replace : ReadResult ≡ ReplaceResult → ⊥
@@ -139,18 +140,19 @@ no_replace_too e = absurd (cc)
 
 tail_written : (operation : Operation) (score : List ℕ) → IsXmlText score → ((operation ≡ ReplaceResult → ⊥) → score ≡ []) → IsTail operation score (tail_text operation score)
 tail_written ReplaceResult score is fits =
-    inl (record { front = bare (word_at scores 0); back = language ++ (codes "<textString" ++ (leaf (codes "/textString >") score ++ bare replace_end)); are = refl; first = bare_markup (word_at scores 0); second = behind_written score is })
+    inl (record { front = bare (word_at scores 0); back = language ++ (codes "<textString" ++ (leaf (codes "/textString >") score ++ bare replace_end)); are = refl; first = bare_markup (word_at scores 0); second = behind_written replace_end score is })
 tail_written ReadResult score is fits = (fits no_replace, bare_markup read_end)
 tail_written DeleteResult score is fits = (fits no_replace_too, bare_markup delete_end)
+
+-- a text inside of words and a closing
+pub joins : (start text last closing end : List ℕ) → (start ++ text) ++ (last ++ (closing ++ end)) ≡ start ++ (((text ++ last) ++ closing) ++ end)
+joins start text last closing end = simp append_assoc
 
 end_replace : (score : List ℕ) → request_end ReplaceResult score ≡ codes "<" ++ (bare (codes "/sourcedId >") ++ tail_text ReplaceResult score)
 end_replace score =
     let start = codes "</sourcedId></sourcedGUID><result><resultScore><language>en</language><textString>" in
     let joined : ((start ++ escape_text score) ++ (codes "<" ++ (bare (codes "/textString >") ++ bare replace_end))) ≡ start ++ (((escape_text score ++ codes "<") ++ bare (codes "/textString >")) ++ bare replace_end) = joins start (escape_text score) (codes "<") (bare (codes "/textString >")) (bare replace_end) in
     joined ∙ ap (λ l. codes "</sourcedId></sourcedGUID><result><resultScore><language" ++ (l ++ (codes "<textString" ++ (leaf (codes "/textString >") score ++ bare replace_end)))) (sym language_is)
-  where
-    joins : (start text last closing end : List ℕ) → ((start ++ text) ++ (last ++ (closing ++ end))) ≡ start ++ (((text ++ last) ++ closing) ++ end)
-    joins start text last closing end = simp append_assoc
 
 end_is : (operation : Operation) (score : List ℕ) → request_end operation score ≡ codes "<" ++ (bare (codes "/sourcedId >") ++ tail_text operation score)
 end_is ReplaceResult score = end_replace score

@@ -54,6 +54,10 @@ behind_at [] at = refl
 behind_at (word ∷ words) zero = refl
 behind_at (word ∷ words) (suc at) = behind_at words at
 
+pub length_behind : (words : List (Bor (List ℕ))) → length (behind words) ≡ length words
+length_behind [] = refl
+length_behind (word ∷ words) = ap suc (length_behind words)
+
 -- ---- words that don't begin alike
 
 -- no string of one begins a string of the other, or the other way round

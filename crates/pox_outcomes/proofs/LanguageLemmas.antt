@@ -73,6 +73,29 @@ stops_here {A = A} {B = B} bytes n y b s = record {
       (compare p d.front q d.back d.are);
 }
 
+-- each string of L begins with one of A, and each one of A begins one of L
+pub stops_prefix : {A L : List ℕ → Type 0} (bytes : List ℕ) (n : ℕ) → ((x : List ℕ) → L x → (f g : List ℕ) × (x ≡ f ++ g) × A f) → ((x : List ℕ) → A x → (y : List ℕ) × L (x ++ y)) → StopsAt A bytes n → StopsAt L bytes n
+stops_prefix {A = A} {L = L} bytes n split more s =
+    let on = more (s.front ++ s.begins.0) s.begins.1 in
+    record {
+      front = s.front;
+      rest = s.rest;
+      are = s.are;
+      left_is = s.left_is;
+      begins = (s.begins.0 ++ on.0, subst L (append_assoc s.front s.begins.0 on.0) on.1);
+      apart = λ p q r d e.
+          let c = split (p ++ q) d in
+          ⊎_elim
+          (λ h.
+          let none : A (c.0 ++ []) = subst A (sym (append-nil c.0)) c.3 in
+          let there : bytes ≡ c.0 ++ (h.0 ++ r) = e ∙ ap (λ t. t ++ r) h.1 ∙ append_assoc c.0 h.0 r in
+          absurd ((s.apart c.0 [] (h.0 ++ r) none there).1 refl))
+          (λ h.
+          let found = s.apart p (h.0 ∷ h.1) r (subst A h.2 c.3) e in
+          (found.0, no_cons q h.0 (h.1 ++ c.1) h.3))
+          (compare p c.0 q c.1 c.2);
+    }
+
 within : (n : ℕ) (front rest back : List ℕ) (bytes : List ℕ) → n ≡ length back → rest ≡ front ++ back → (c : ℕ) (m r : List ℕ) → r ≡ c ∷ (m ++ rest) → n ≤ length r
 within n front rest back bytes is are c m r e =
     let long = ap length are ∙ length-append front back in

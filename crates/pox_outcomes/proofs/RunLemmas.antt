@@ -105,3 +105,48 @@ free_run {B = B} P free outside x y r s a b e =
     let once = run_once P a.front b.front oa.0 ob.0 (oa.1 ++ r) (ob.1 ++ s) a.first b.first oa.3 ob.3 (sym ea ∙ e ∙ eb) in
     let backs : a.back ++ r ≡ b.back ++ s = ap (λ t. t ++ r) oa.2 ∙ once.1 ∙ ap (λ t. t ++ s) (sym ob.2) in
     a.are ∙ ap (λ t. t ++ a.back) once.0 ∙ ap (λ t. b.front ++ t) (free a.back b.back r s a.second b.second backs) ∙ sym b.are
+
+-- ---- a run, and behind it what is said of this run
+
+pub record RunOf (P : ℕ → Bool) (B : List ℕ → List ℕ → Type 0) (bytes : List ℕ) : Type 0 where
+  pub front : List ℕ
+  pub back : List ℕ
+  pub are : bytes ≡ front ++ back
+  pub run : IsRun P front
+  pub is : B front back
+
+apart_of : (B : List ℕ → List ℕ → Type 0) (P : ℕ → Bool) (run front back m q rest r : List ℕ) (n : ℕ) → IsRun P run → IsRun P front → BeginsOutside P back → IsOutside P rest
+    → rest ≡ m ++ r → run ++ (m ++ q) ≡ front ++ back → B front back → StopsAt (B run) rest n → (n ≤ length r) × (q ≢ [])
+apart_of B P run front back [] q rest r n ra rb out fails is e b s =
+    let long = ap length is in
+    (omega (arith, left-le rest n s, long), run_ends P run front back q ra e out)
+apart_of B P run front back (c ∷ m) q rest r n ra rb out fails is e b s =
+    let first : IsOutside P (c ∷ (m ++ r)) = subst (IsOutside P) is fails in
+    let once = run_once P run front c out.0 (m ++ q) out.1 ra rb first out.3 (e ∙ ap (λ t. front ++ t) out.2) in
+    let here : B front (c ∷ (m ++ q)) = subst (B front) (out.2 ∙ sym once.1) b in
+    s.apart (c ∷ m) q r (subst (λ f. B f (c ∷ (m ++ q))) (sym once.0) here) is
+
+pub leads_run_of : {B : List ℕ → List ℕ → Type 0} (P : ℕ → Bool) (bytes run rest : List ℕ) → bytes ≡ run ++ rest → IsRun P run → IsOutside P rest → ((f x : List ℕ) → B f x → BeginsOutside P x)
+    → Leads (RunOf P B) bytes (B run) rest
+leads_run_of {B = B} P bytes run rest are is fails outside = record {
+  front = run;
+  are = are;
+  into = λ y b. record { front = run; back = y; are = refl; run = is; is = b };
+  stops = λ n s. record {
+    front = run ++ s.front;
+    rest = s.rest;
+    are = are ∙ ap (λ t. run ++ t) s.are ∙ sym (append_assoc run s.front s.rest);
+    left_is = s.left_is;
+    begins = (s.begins.0, record { front = run; back = s.front ++ s.begins.0; are = append_assoc run s.front s.begins.0; run = is; is = s.begins.1 });
+    apart = λ p q r d e.
+        ⊎_elim
+        (λ h. apart_of B P run d.front d.back h.0 q rest r n is d.run (outside d.front d.back d.is) fails h.2
+        (sym (append_assoc run h.0 q) ∙ ap (λ t. t ++ q) (sym h.1) ∙ d.are) d.is s)
+        (λ h.
+        let front_run : IsRun P p = run_front P p h.0 h.1 run h.2 is in
+        let long = ap length h.3 in
+        let more = length-append h.1 rest in
+        (omega (arith, left-le rest n s, long, more), run_ends P p d.front d.back q front_run d.are (outside d.front d.back d.is)))
+        (compare p run r rest (sym e ∙ are));
+  };
+}

@@ -66,7 +66,7 @@ unfolding lib.Utf8.encode
 space false = inl (refl, refl, refl)
 space true = inr (inr (32, refl, (5, omega arith, record { front = codes "&#"; back = codes "32;"; are = refl; first = bare_markup (codes "&#"); second = inr (record { digits = codes "32"; are = refl; in_base = refl; spells = refl; allowed = refl }) })))
 
-itself : (edge : Bool) (b : ℕ) → (b == 38) ≡ false → (b == 60) ≡ false → (b == 62) ≡ false → (b == 9) ≡ false → (b == 10) ≡ false → (b == 13) ≡ false → (b == 32) ≡ false → escape_byte edge b ≡ b ∷ []
+pub itself : (edge : Bool) (b : ℕ) → (b == 38) ≡ false → (b == 60) ≡ false → (b == 62) ≡ false → (b == 9) ≡ false → (b == 10) ≡ false → (b == 13) ≡ false → (b == 32) ≡ false → escape_byte edge b ≡ b ∷ []
 itself edge b e1 e2 e3 e4 e5 e6 e7 = rw (e1, e2, e3, e4, e5, e6, e7) refl
 
 literal_here : (b : ℕ) → (b == 38) ≡ false → (b == 60) ≡ false → (b == 9) ≡ false → (b == 10) ≡ false → (b == 13) ≡ false → (b == 32) ≡ false → is_literal b ≡ true

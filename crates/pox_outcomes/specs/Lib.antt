@@ -7,7 +7,13 @@ pub mod Texts
 pub mod Leaves
 pub mod Attributes
 pub mod Declaration
+pub mod Scores
+pub mod Elements
+pub mod Optional
 pub mod Request
+pub mod Body
+pub mod Answer
+pub mod BadAt
 pub mod BadRequest
 pub mod Written
 pub mod Refusal

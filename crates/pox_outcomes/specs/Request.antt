@@ -1,10 +1,11 @@
 -- Outcome requests (LTI 1.1.1, section 6, and the schema imsoms_v1p0). In markup a space stands for any white bytes.
-use Rattle.std.specs.Prelude.{◌≡◌, ℕ, false, List, [], ◌∷◌, ◌⊎◌, codes}
-use Rattle.pox_outcomes.specs.Language.{◌▸◌, Any}
+use Rattle.std.specs.Prelude.{◌≡◌, ℕ, false, List, [], ◌∷◌, codes}
+use Rattle.pox_outcomes.specs.Language.{◌▸◌}
 use Rattle.pox_outcomes.specs.Markup.{IsWhite, IsMarkup, word_at}
 use Rattle.pox_outcomes.specs.Attributes.{IsAttributes}
 use Rattle.pox_outcomes.specs.Declaration.{IsOpening}
 use Rattle.pox_outcomes.specs.Leaves.{IsLeaf}
+use Rattle.pox_outcomes.specs.Scores.{IsScored}
 use Rattle.pox_outcomes.specs.declared.outcome.Operation.{Operation}
 use Rattle.pox_outcomes.specs.declared.outcome.Operation.TheVariants.{ReplaceResult, ReadResult, DeleteResult}
 use Rattle.pox_outcomes.specs.declared.outcome.Outcome.{Outcome}
@@ -28,24 +29,12 @@ place_of ReplaceResult = 0
 place_of ReadResult = 1
 place_of DeleteResult = 2
 
--- a text string, and markup behind it
-abbrev pub IsTextString : List ℕ → List ℕ → List ℕ → Type 0
-IsTextString closing score = IsLeaf (codes "/textString >") score ▸ IsMarkup closing
-
 -- from behind the id up to the text string, with or without a language
 abbrev pub scores : List (List ℕ)
 scores = codes " </sourcedGUID > <result > <resultScore > <language" ∷ codes " </sourcedGUID > <result > <resultScore > <textString" ∷ []
 
--- a language of any text, and a text string
-abbrev pub IsBehindLanguage : List ℕ → List ℕ → List ℕ → Type 0
-IsBehindLanguage closing score = Any (IsLeaf (codes "/language >")) ▸ IsMarkup (codes " <textString") ▸ IsTextString closing score
-
 abbrev pub replace_end : List ℕ
 replace_end = codes " </resultScore > </result > </resultRecord > </replaceResultRequest > </imsx_POXBody > </imsx_POXEnvelopeRequest >"
-
-abbrev pub IsScore : List ℕ → List ℕ → Type 0
-IsScore score bytes =
-    (IsMarkup (word_at scores 0) ▸ IsBehindLanguage replace_end score) bytes ⊎ (IsMarkup (word_at scores 1) ▸ IsTextString replace_end score) bytes
 
 abbrev pub read_end : List ℕ
 read_end = codes " </sourcedGUID > </resultRecord > </readResultRequest > </imsx_POXBody > </imsx_POXEnvelopeRequest >"
@@ -55,7 +44,7 @@ delete_end = codes " </sourcedGUID > </resultRecord > </deleteResultRequest > </
 
 -- what stands behind the id
 abbrev pub IsTail : Operation → List ℕ → List ℕ → Type 0
-IsTail ReplaceResult score bytes = IsScore score bytes
+IsTail ReplaceResult score bytes = IsScored scores replace_end score bytes
 IsTail ReadResult score bytes = (score ≡ []) × IsMarkup read_end bytes
 IsTail DeleteResult score bytes = (score ≡ []) × IsMarkup delete_end bytes
 

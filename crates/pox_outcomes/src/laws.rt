@@ -1,8 +1,14 @@
 // What holds of all envelopes.
-ghost use Rattle.pox_outcomes.specs.Laws.{WrittenIsRead};
+ghost use Rattle.pox_outcomes.specs.Laws.{WrittenIsRead, WrittenAnswerIsRead};
 
 /// What `write_request` writes for an outcome is an envelope of this outcome, so that `read_request` answers it or
 /// `NoMemory`: where the score text is empty unless the operation is `ReplaceResult`.
 pub fn written_is_read()
     ensures { WrittenIsRead }
+{}
+
+/// What `write_answer` writes says what it was told, so that `read_answer` answers this or `NoMemory`: where the message
+/// identifier and the id are XML text.
+pub fn written_answer_is_read()
+    ensures { WrittenAnswerIsRead }
 {}

@@ -2,14 +2,19 @@
 //! schema imsoms_v1p0).
 //!
 //! A closed grammar of the bytes says which envelopes there are; `specs/` states it apart from the reader.
-//! Promised: an envelope is read as exactly the outcome that it spells, and bytes that are no envelope are
-//! refused with the number of them that begin one. A request is written as one exact text, which is read back.
+//! Promised: a request is read as exactly the outcome that it spells, and an answer as exactly what it says; other
+//! bytes are refused with the number of them that begin one. Requests and answers are written as one exact text
+//! each, which is read back.
 #![tactic(auto)]
 
+mod answer;
 mod answers;
 mod attributes;
+mod bodies;
 mod characters;
 mod declaration;
+mod details;
+mod elements;
 mod faults;
 mod laws;
 mod leaves;
@@ -18,6 +23,8 @@ mod outcome;
 mod puts;
 mod references;
 mod requests;
+mod responses;
+mod scores;
 mod stops;
 #[cfg(test)]
 mod tests;
@@ -25,10 +32,12 @@ mod texts;
 mod told;
 mod writing;
 
+pub use answer::{Answer, Major};
 pub use answers::{answer_room, write_answer};
 pub use faults::{EnvelopeFault, EnvelopeRefusal};
-pub use laws::written_is_read;
+pub use laws::{written_answer_is_read, written_is_read};
 pub use outcome::{Operation, Outcome};
 pub use requests::read_request;
+pub use responses::read_answer;
 pub use told::Told;
 pub use writing::write_request;

@@ -1,5 +1,5 @@
 // Markup with white space (XML 1.0, section 2.3).
-ghost use Rattle.std.specs.Prelude.{◌≡◌, ◌∷◌, true, codes, IfOk, IfErr, MatchOption, ◌<◌, length, [], if◌then◌else◌};
+ghost use Rattle.std.specs.Prelude.{◌≡◌, ◌∷◌, true, codes, IfOk, IfErr, MatchOption, ◌<◌, ◌==◌, length, [], if◌then◌else◌};
 ghost use Rattle.std.specs.List.{list_all};
 ghost use Rattle.pox_outcomes.specs.Language.{Reads};
 ghost use Rattle.pox_outcomes.specs.Markup as spec;
@@ -35,6 +35,13 @@ pub fn after_byte(bytes: &[u8], byte: u8) -> Option<&[u8]>
         [first, rest @ ..] if *first == byte => Some(rest),
         _ => None,
     }
+}
+
+/// Whether no byte is left.
+pub fn is_end(dark: &[u8]) -> bool
+    ensures { result ≡ (length dark.now == 0) }
+{
+    dark.is_empty()
 }
 
 /// What stands behind the bytes that the markup stands for. In it a space stands for any number of white bytes,

@@ -1,9 +1,8 @@
 // Reading outcome requests (LTI 1.1.1, section 6, and the schema imsoms_v1p0).
 ghost use Rattle.std.specs.Prelude.{◌≡◌, ◌<◌, ◌==◌, true, ℕ, List, length, codes, IfOk, IfErr, MatchResult};
 ghost use Rattle.pox_outcomes.specs.Language.{Any, Reads};
-ghost use Rattle.pox_outcomes.specs.Markup.{is_plain};
 ghost use Rattle.pox_outcomes.specs.Request as spec;
-ghost use Rattle.pox_outcomes.specs.Request.{IsTextString, IsBehindLanguage, IsScore, IsTail, IsEnvelope, EnvelopeOf, place_of};
+ghost use Rattle.pox_outcomes.specs.Request.{IsTail, IsEnvelope, EnvelopeOf, place_of};
 ghost use Rattle.pox_outcomes.specs.BadRequest.{IsBadRequest};
 ghost use Rattle.pox_outcomes.specs.declared.outcome.Operation.TheVariants as operation;
 ghost use Rattle.pox_outcomes.specs.Stops.{IsHalt};
@@ -11,7 +10,8 @@ ghost use Rattle.pox_outcomes.specs.Stops.{IsHalt};
 use crate::attributes::after_attributes;
 use crate::declaration::after_opening;
 use crate::leaves::leaf;
-use crate::markup::{follow, one_of, skip_white};
+use crate::markup::{follow, is_end, one_of, skip_white};
+use crate::scores::score;
 use crate::stops::Halt;
 use crate::{EnvelopeFault, Operation, Outcome};
 use lti_outside::Text;
@@ -55,45 +55,6 @@ fn operation_at(place: usize) -> Operation
     }
 }
 
-// The text of a text string with the markup behind it, and what stands behind that.
-fn text_string<'a>(alloc: Global, bytes: &'a [u8], closing: &[u8]) -> Result<(Text, &'a [u8]), Halt>
-    requires { is_plain closing.now ≡ true }
-    ensures reads { IfOk result (λ found. Reads (IsTextString closing.now found.0) bytes.now found.1.now) }
-    ensures stops { IfErr result (IsHalt (Any (IsTextString closing.now)) bytes.now) }
-{
-    let (score, rest) = leaf(alloc, bytes, b"/textString >")?;
-    let behind = follow(rest, closing)?;
-    Ok((score, behind))
-}
-
-// The same behind a language.
-fn behind_language<'a>(
-    alloc: Global,
-    bytes: &'a [u8],
-    closing: &[u8],
-) -> Result<(Text, &'a [u8]), Halt>
-    requires { is_plain closing.now ≡ true }
-    ensures reads { IfOk result (λ found. Reads (IsBehindLanguage closing.now found.0) bytes.now found.1.now) }
-    ensures stops { IfErr result (IsHalt (Any (IsBehindLanguage closing.now)) bytes.now) }
-{
-    let (_, rest) = leaf(alloc, bytes, b"/language >")?;
-    let last = follow(rest, b" <textString")?;
-    let (score, behind) = text_string(alloc, last, closing)?;
-    Ok((score, behind))
-}
-
-// The score of a replaceResult from behind its id on, and what stands behind the root.
-fn score(alloc: Global, bytes: &[u8]) -> Result<(Text, &[u8]), Halt>
-    ensures reads { IfOk result (λ found. Reads (IsScore found.0) bytes.now found.1.now) }
-    ensures stops { IfErr result (IsHalt (Any IsScore) bytes.now) }
-{
-    let (place, rest) = one_of(bytes, &SCORES)?;
-    if place == 0 {
-        return behind_language(alloc, rest, REPLACE_END);
-    }
-    text_string(alloc, rest, REPLACE_END)
-}
-
 // The empty score of a readResult from behind its id on, and what stands behind the root.
 fn read_tail(alloc: Global, bytes: &[u8]) -> Result<(Text, &[u8]), Halt>
     ensures reads { IfOk result (λ found. Reads (IsTail operation.ReadResult found.0) bytes.now found.1.now) }
@@ -118,7 +79,7 @@ fn tail(alloc: Global, bytes: &[u8], asked: Operation) -> Result<(Text, &[u8]), 
     ensures stops { IfErr result (IsHalt (Any (IsTail asked)) bytes.now) }
 {
     match asked {
-        Operation::ReplaceResult => score(alloc, bytes),
+        Operation::ReplaceResult => score(alloc, bytes, &SCORES, REPLACE_END),
         Operation::ReadResult => read_tail(alloc, bytes),
         Operation::DeleteResult => delete_tail(alloc, bytes),
     }
@@ -144,13 +105,6 @@ fn envelope(alloc: Global, bytes: &[u8]) -> Result<(Outcome, &[u8]), Halt>
         score_text,
     };
     Ok((outcome, behind))
-}
-
-// Whether no byte is left.
-fn is_end(dark: &[u8]) -> bool
-    ensures { result ≡ (length dark.now == 0) }
-{
-    dark.is_empty()
 }
 
 /// The outcome that an envelope asks for (LTI 1.1.1, section 6, and the schema imsoms_v1p0): an XML declaration or

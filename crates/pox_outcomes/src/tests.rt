@@ -1,8 +1,8 @@
 ghost use Rattle.pox_outcomes.specs.Answered.{Belongs};
 
 use crate::{
-    EnvelopeFault, EnvelopeRefusal, Operation, Outcome, Told, answer_room, read_request,
-    write_answer, write_request,
+    EnvelopeFault, EnvelopeRefusal, Major, Operation, Outcome, Told, answer_room, read_answer,
+    read_request, write_answer, write_request,
 };
 use lti_outside::{Bytes, Text};
 use score_decimal::Score;
@@ -250,4 +250,123 @@ fn each_answer_is_its_text(rt: HostRuntime) -> Result<(), Fail> {
         )?
     );
     Ok(())
+}
+
+// Whether the bytes are an answer with these texts.
+fn is_read(alloc: Global, text: &str, major: Major, texts: [&str; 6]) -> bool {
+    match read_answer(alloc, text.as_bytes()) {
+        Ok(answer) => {
+            answer.major == major
+                && answer.message.get() == texts[0]
+                && answer.severity.get() == texts[1]
+                && answer.description.get() == texts[2]
+                && answer.message_ref.get() == texts[3]
+                && answer.operation_ref.get() == texts[4]
+                && answer.score_text.get() == texts[5]
+        }
+        Err(_) => false,
+    }
+}
+
+#[test]
+fn spellings_of_answers_are_read(rt: HostRuntime) {
+    let spellings = [
+        (
+            "<?xml version=\"1.0\" encoding=\"UTF-8\"?><imsx_POXEnvelopeResponse xmlns=\"http://www.imsglobal.org/services/ltiv1p1/xsd/imsoms_v1p0\"><imsx_POXHeader><imsx_POXResponseHeaderInfo><imsx_version>V1.0</imsx_version><imsx_messageIdentifier>4560</imsx_messageIdentifier><imsx_statusInfo><imsx_codeMajor>success</imsx_codeMajor><imsx_severity>status</imsx_severity><imsx_description>Score for 3124567 is 0.92</imsx_description><imsx_messageRefIdentifier>999999123</imsx_messageRefIdentifier><imsx_operationRefIdentifier>readResult</imsx_operationRefIdentifier></imsx_statusInfo></imsx_POXResponseHeaderInfo></imsx_POXHeader><imsx_POXBody><readResultResponse><result><resultScore><language>en</language><textString>0.92</textString></resultScore></result></readResultResponse></imsx_POXBody></imsx_POXEnvelopeResponse>",
+            Major::Success,
+            [
+                "4560",
+                "status",
+                "Score for 3124567 is 0.92",
+                "999999123",
+                "readResult",
+                "0.92",
+            ],
+        ),
+        (
+            "<imsx_POXEnvelopeResponse xmlns=''><imsx_POXHeader><imsx_POXResponseHeaderInfo><imsx_version>V1.0</imsx_version><imsx_messageIdentifier>7</imsx_messageIdentifier><imsx_statusInfo><imsx_codeMajor>processing</imsx_codeMajor></imsx_statusInfo></imsx_POXResponseHeaderInfo></imsx_POXHeader><imsx_POXBody/></imsx_POXEnvelopeResponse>\n",
+            Major::Processing,
+            ["7", "", "", "", "", ""],
+        ),
+        (
+            "<imsx_POXEnvelopeResponse xmlns=''><imsx_POXHeader><imsx_POXResponseHeaderInfo><imsx_version>V1.0</imsx_version><imsx_messageIdentifier>7</imsx_messageIdentifier><imsx_statusInfo><imsx_codeMajor> failure </imsx_codeMajor> <imsx_description>No</imsx_description> <imsx_operationRefIdentifier/></imsx_statusInfo></imsx_POXResponseHeaderInfo></imsx_POXHeader><imsx_POXBody> <replaceResultResponse /> </imsx_POXBody></imsx_POXEnvelopeResponse>",
+            Major::Failure,
+            ["7", "", "No", "", "", ""],
+        ),
+        (
+            "<imsx_POXEnvelopeResponse xmlns=''><imsx_POXHeader><imsx_POXResponseHeaderInfo><imsx_version>V1.0</imsx_version><imsx_messageIdentifier>7</imsx_messageIdentifier><imsx_statusInfo><imsx_codeMajor>unsupported</imsx_codeMajor></imsx_statusInfo></imsx_POXResponseHeaderInfo></imsx_POXHeader><imsx_POXBody><x_1></x_1 ></imsx_POXBody ></imsx_POXEnvelopeResponse>",
+            Major::Unsupported,
+            ["7", "", "", "", "", ""],
+        ),
+        (
+            "<imsx_POXEnvelopeResponse xmlns=''><imsx_POXHeader><imsx_POXResponseHeaderInfo><imsx_version>V1.0</imsx_version><imsx_messageIdentifier>7</imsx_messageIdentifier><imsx_statusInfo><imsx_codeMajor>success</imsx_codeMajor></imsx_statusInfo></imsx_POXResponseHeaderInfo></imsx_POXHeader><imsx_POXBody ></imsx_POXBody></imsx_POXEnvelopeResponse>",
+            Major::Success,
+            ["7", "", "", "", "", ""],
+        ),
+        (
+            "<imsx_POXEnvelopeResponse xmlns=''><imsx_POXHeader><imsx_POXResponseHeaderInfo><imsx_version>V1.0</imsx_version><imsx_messageIdentifier>7</imsx_messageIdentifier><imsx_statusInfo><imsx_codeMajor>success</imsx_codeMajor></imsx_statusInfo></imsx_POXResponseHeaderInfo></imsx_POXHeader><imsx_POXBody><readResultResponse> </readResultResponse></imsx_POXBody></imsx_POXEnvelopeResponse>",
+            Major::Success,
+            ["7", "", "", "", "", ""],
+        ),
+        (
+            "<imsx_POXEnvelopeResponse xmlns=''><imsx_POXHeader><imsx_POXResponseHeaderInfo><imsx_version>V1.0</imsx_version><imsx_messageIdentifier>7</imsx_messageIdentifier><imsx_statusInfo><imsx_codeMajor>success</imsx_codeMajor></imsx_statusInfo></imsx_POXResponseHeaderInfo></imsx_POXHeader><imsx_POXBody><readResultResponse><result> <resultScore><textString> 1 </textString></resultScore></result></readResultResponse></imsx_POXBody></imsx_POXEnvelopeResponse>",
+            Major::Success,
+            ["7", "", "", "", "", "1"],
+        ),
+    ];
+    for (text, major, texts) in spellings {
+        assert!(rt; is_read(rt.alloc(), text, major, texts));
+    }
+}
+
+// Whether the text is bad where so many of its bytes are left.
+fn is_bad_before(alloc: Global, text: &str, left: usize) -> bool {
+    match read_answer(alloc, text.as_bytes()) {
+        Err(EnvelopeFault::BadEnvelope { at }) => {
+            left <= text.len() && at == (text.len() - left) as u64
+        }
+        _ => false,
+    }
+}
+
+#[test]
+fn bad_answers_are_refused_at_their_place(rt: HostRuntime) {
+    let texts = [
+        ("<imsx_POXEnvelopeRequest", 5),
+        (
+            "<imsx_POXEnvelopeResponse xmlns=''><imsx_POXHeader><imsx_POXResponseHeaderInfo><imsx_version>V1.0</imsx_version><imsx_messageIdentifier>7</imsx_messageIdentifier><imsx_statusInfo><imsx_codeMajor>succes</imsx_codeMajor>",
+            17,
+        ),
+        (
+            "<imsx_POXEnvelopeResponse xmlns=''><imsx_POXHeader><imsx_POXResponseHeaderInfo><imsx_version>V1.0</imsx_version><imsx_messageIdentifier>7</imsx_messageIdentifier><imsx_statusInfo><imsx_codeMajor>success</imsx_codeMajor><imsx_description/><imsx_severity/>",
+            10,
+        ),
+        (
+            "<imsx_POXEnvelopeResponse xmlns=''><imsx_POXHeader><imsx_POXResponseHeaderInfo><imsx_version>V1.0</imsx_version><imsx_messageIdentifier>7</imsx_messageIdentifier><imsx_statusInfo><imsx_codeMajor>success</imsx_codeMajor></imsx_statusInfo></imsx_POXResponseHeaderInfo></imsx_POXHeader><imsx_POXBody><a/><b/>",
+            3,
+        ),
+        (
+            "<imsx_POXEnvelopeResponse xmlns=''><imsx_POXHeader><imsx_POXResponseHeaderInfo><imsx_version>V1.0</imsx_version><imsx_messageIdentifier>7</imsx_messageIdentifier><imsx_statusInfo><imsx_codeMajor>success</imsx_codeMajor></imsx_statusInfo></imsx_POXResponseHeaderInfo></imsx_POXHeader><imsx_POXBody><a></b>",
+            2,
+        ),
+        (
+            "<imsx_POXEnvelopeResponse xmlns=''><imsx_POXHeader><imsx_POXResponseHeaderInfo><imsx_version>V1.0</imsx_version><imsx_messageIdentifier>7</imsx_messageIdentifier><imsx_statusInfo><imsx_codeMajor>success</imsx_codeMajor></imsx_statusInfo></imsx_POXResponseHeaderInfo></imsx_POXHeader><imsx_POXBody><1/>",
+            3,
+        ),
+        (
+            "<imsx_POXEnvelopeResponse xmlns=''><imsx_POXHeader><imsx_POXResponseHeaderInfo><imsx_version>V1.0</imsx_version><imsx_messageIdentifier>7</imsx_messageIdentifier><imsx_statusInfo><imsx_codeMajor>success</imsx_codeMajor></imsx_statusInfo></imsx_POXResponseHeaderInfo></imsx_POXHeader><imsx_POXBody><readResultResponses><result>",
+            7,
+        ),
+        (
+            "<imsx_POXEnvelopeResponse xmlns=''><imsx_POXHeader><imsx_POXResponseHeaderInfo><imsx_version>V1.0</imsx_version><imsx_messageIdentifier>7</imsx_messageIdentifier><imsx_statusInfo><imsx_codeMajor>success</imsx_codeMajor></imsx_statusInfo></imsx_POXResponseHeaderInfo></imsx_POXHeader><imsx_POXBody/></imsx_POXEnvelopeResponse>x",
+            1,
+        ),
+        (
+            "<imsx_POXEnvelopeResponse xmlns=''><imsx_POXHeader><imsx_POXResponseHeaderInfo><imsx_version>V1.0</imsx_version><imsx_messageIdentifier>7</imsx_messageIdentifier><imsx_statusInfo><imsx_codeMajor>success</imsx_codeMajor></imsx_statusInfo></imsx_POXResponseHeaderInfo></imsx_POXHeader><imsx_POXBody/></imsx_POXEnvelopeResponse",
+            0,
+        ),
+    ];
+    for (text, left) in texts {
+        assert!(rt; is_bad_before(rt.alloc(), text, left));
+    }
 }

@@ -1,11 +1,11 @@
 use Rattle.pox_outcomes.specs.Language.{Any}
-use Rattle.pox_outcomes.specs.Request.{IsTextString}
+use Rattle.pox_outcomes.specs.Scores.{IsTextString}
 use Rattle.pox_outcomes.specs.Stops.{IsHalt}
 use Rattle.pox_outcomes.specs.declared.stops.Halt.TheVariants.{Stopped}
 use Rattle.pox_outcomes.proofs.CarriedLemmas.{carried, halts}
 use Rattle.pox_outcomes.proofs.LanguageLemmas.{reads_then}
-use Rattle.pox_outcomes.proofs.RequestLemmas.{string_stops_leaf, string_stops_closing}
-use Rattle.pox_outcomes.proofs.requests.text_string.Goals as goal
+use Rattle.pox_outcomes.proofs.ScoreLemmas.{string_stops_leaf, string_stops_closing}
+use Rattle.pox_outcomes.proofs.scores.text_string.Goals as goal
 
 pub returns-in_err-score-clause-stops : goal.returns-in_err-score-clause-stops
 returns-in_err-score-clause-stops c =

@@ -1,10 +1,10 @@
 use Rattle.pox_outcomes.specs.Language.{Any}
-use Rattle.pox_outcomes.specs.Request.{IsBehindLanguage}
+use Rattle.pox_outcomes.specs.Scores.{IsBehindLanguage}
 use Rattle.pox_outcomes.specs.Stops.{IsHalt}
 use Rattle.pox_outcomes.specs.declared.stops.Halt.TheVariants.{Stopped}
 use Rattle.pox_outcomes.proofs.CarriedLemmas.{carried, halts}
-use Rattle.pox_outcomes.proofs.RequestLemmas.{language_stops_leaf, language_stops_word, language_stops_string, language_reads}
-use Rattle.pox_outcomes.proofs.requests.behind_language.Goals as goal
+use Rattle.pox_outcomes.proofs.ScoreLemmas.{language_stops_leaf, language_stops_word, language_stops_string, language_reads}
+use Rattle.pox_outcomes.proofs.scores.behind_language.Goals as goal
 
 pub returns-in_err-rest-clause-stops : goal.returns-in_err-rest-clause-stops
 returns-in_err-rest-clause-stops c =
