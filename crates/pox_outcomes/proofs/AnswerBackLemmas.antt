@@ -35,7 +35,7 @@ xml_ascii (b ∷ text) all =
     let both = and_split (is_within (0x20, 0x7F) b) (list_all (is_within (0x20, 0x7F)) text) all in
     one (b ∷ []) text (0, omega arith, record { front = b ∷ []; back = []; are = refl; first = (b, refl, both.0); second = refl }) (xml_ascii text both.1) refl
 
-xml_append : (a b : List ℕ) → IsXmlText a → IsXmlText b → IsXmlText (a ++ b)
+pub xml_append : (a b : List ℕ) → IsXmlText a → IsXmlText b → IsXmlText (a ++ b)
 xml_append a b (none e) is = subst (λ t. IsXmlText (t ++ b)) (sym e) is
 xml_append a b (one character rest c behind are) is = one character (rest ++ b) c (xml_append rest b behind is) (ap (λ t. t ++ b) are ∙ append_assoc character rest b)
 

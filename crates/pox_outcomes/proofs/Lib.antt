@@ -25,3 +25,4 @@ pub mod WritingLemmas
 pub mod SpellingLemmas
 pub mod BackLemmas
 pub mod AnswerBackLemmas
+pub mod AllowedLemmas

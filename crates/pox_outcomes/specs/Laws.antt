@@ -21,6 +21,10 @@ IsFitting o = (o.operation ≡ ReplaceResult → ⊥) → o.score_text ≡ []
 abbrev pub WrittenIsRead : Type 0
 WrittenIsRead = (o : Outcome) → IsXml o → IsFitting o → EnvelopeOf (request_text o) o
 
+-- What is read can be written again: its texts are XML text, and it has a score text only where the score is set.
+abbrev pub ReadIsWritable : Type 0
+ReadIsWritable = (bytes : List ℕ) (o : Outcome) → EnvelopeOf bytes o → IsXml o × IsFitting o
+
 -- what an answer says that tells this: its major code, its severity, its description of an id, and its score's text
 abbrev pub major_told : Told → Major
 major_told (Replaced score) = Success

@@ -35,7 +35,7 @@ mod writing;
 pub use answer::{Answer, Major};
 pub use answers::{answer_room, write_answer};
 pub use faults::{EnvelopeFault, EnvelopeRefusal};
-pub use laws::{written_answer_is_read, written_is_read};
+pub use laws::{read_is_writable, written_answer_is_read, written_is_read};
 pub use outcome::{Operation, Outcome};
 pub use requests::read_request;
 pub use responses::read_answer;
