@@ -1,5 +1,5 @@
 -- What the program does by its words, and what it prints for a status (this project's own).
-use Rattle.std.specs.Prelude.{◌≡◌, ◌⊎◌, ℕ, List, [], ◌∷◌, codes, ◌==◌, if◌then◌else◌}
+use Rattle.std.specs.Prelude.{◌≡◌, ℕ, List, [], ◌∷◌, codes, ◌==◌, if◌then◌else◌}
 use Rattle.lti_cmd.specs.declared.words.Asked.{Asked}
 use Rattle.lti_cmd.specs.declared.words.Asked.TheVariants.{Help, Version, Work}
 
