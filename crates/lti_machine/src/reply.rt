@@ -1,4 +1,8 @@
 // What the machine answers.
+ghost use Rattle.std.specs.Prelude.{◌≡◌};
+ghost use Rattle.lti_machine.specs.Rules as rules;
+
+use score_decimal::Score;
 
 /// The reply to a call. Only an acceptance adds an entry; every other reply leaves the list as it was.
 #[derive(Clone, Copy, Debug, PartialEq, Eq)]
@@ -7,6 +11,20 @@ pub enum Reply {
     Noted,
     /// Accepted: the nonce is used up, and the launch is noted.
     Launched,
+    /// Accepted: the nonce is used up, and the id has the score that was sent.
+    Graded,
+    /// Accepted: the nonce is used up. `score` is the grade of the id; it is `None` where the id has none.
+    GradeRead { score: Option<Score> },
+    /// Accepted: the nonce is used up, and the id has no grade. It may have had none before.
+    Deleted,
+    /// Accepted: the nonce is used up, but the id was never issued under this key, and no grade is changed.
+    UnknownId,
+    /// Accepted: the nonce is used up, but what was sent is no score, and no grade is changed.
+    BadScore,
+    /// Accepted: the id is issued under the key, and has no grade yet.
+    Issued,
+    /// The id is issued under the key already. It keeps its grade.
+    AlreadyIssued,
     /// The timestamp is more than 5400 seconds before or after the moment that stands. `now` is that
     /// moment: the call's own, or the greatest that was accepted. One of the two clocks is wrong, or the
     /// call is old. The 5400 seconds are this project's own.
@@ -21,4 +39,27 @@ pub enum Reply {
     /// Accepting needs memory that was refused, or the list has 2^32 - 1 entries, which is its end. The
     /// nonce isn't used up, and the same call may be asked again.
     NoMemory,
+}
+
+impl Reply {
+    /// Whether the call was accepted: its nonce, if it has one, is used up, and it has an entry.
+    pub fn is_acceptance(&self) -> bool
+        ensures { result ≡ rules.is_acceptance self.now }
+    {
+        match self {
+            Reply::Noted
+            | Reply::Launched
+            | Reply::Graded
+            | Reply::GradeRead { .. }
+            | Reply::Deleted
+            | Reply::UnknownId
+            | Reply::BadScore
+            | Reply::Issued => true,
+            Reply::AlreadyIssued
+            | Reply::Outside { .. }
+            | Reply::Used
+            | Reply::WindowFull { .. }
+            | Reply::NoMemory => false,
+        }
+    }
 }

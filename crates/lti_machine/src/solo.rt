@@ -1,13 +1,16 @@
 // The plain machine, with a list.
-ghost use Rattle.std.specs.Prelude.{◌≡◌, []};
-ghost use Rattle.lti_machine.specs.Rules.{decide, after, Answers, effect_of, result_of};
+ghost use Rattle.std.specs.Prelude.{◌≡◌, [], length, slice_get, true};
+ghost use Rattle.std.specs.Option.{option_map, option_copied};
+ghost use Rattle.lti_machine.specs.Rules.{decide, after, Answers, standing_of};
+ghost use Rattle.lti_machine.specs.Belongs.{belongs};
 ghost use Rattle.lti_machine.specs.Sound.{IsSound};
 
-use crate::call::{Action, Call};
-use crate::entry::{Effect, Entry};
+use crate::call::Call;
+use crate::entry::{Entry, effect_of};
 use crate::places::Places;
 use crate::reply::Reply;
 use crate::rules;
+use crate::standing::{Standing, standing_among};
 use crate::verdict::Verdict;
 use lti_outside::Limits;
 use std::alloc::Global;
@@ -16,9 +19,9 @@ use std::marker::Model;
 
 /// The machine with all that it ever accepted, in order, in one list of at most 2^32 - 1 entries.
 ///
-/// A call costs one look-up by the hash of its key, timestamp and nonce. It costs a pass over the list where
-/// an entry with other ones has that hash, which is seldom, and one where the list is at least as long as
-/// the window.
+/// A signed call costs one look-up by the hash of its key, timestamp and nonce. It costs a pass over the list
+/// where an entry with other ones has that hash, which is seldom, one where the list is at least as long as the
+/// window, and one where it asks for a grade.
 #[derive(Drop)]
 pub struct Solo {
     entries: Vec<Entry>,
@@ -37,30 +40,6 @@ impl Model for Solo {
     ghost view = { λ s. s.entries.items };
 
     ghost invariant = { λ s. IsHeld s.entries.items (get nat_eq s.places) s.highest };
-}
-
-// What an action changes, and the reply to it.
-fn perform(action: Action) -> (Effect, Reply)
-    ensures effect { result.0 ≡ effect_of action }
-    ensures reply { result.1 ≡ result_of action }
-{
-    match action {
-        Action::Note => (Effect::Nothing, Reply::Noted),
-        Action::Launch {
-            link,
-            user,
-            sourced_id,
-            service,
-        } => (
-            Effect::Launch {
-                link,
-                user,
-                sourced_id,
-                service,
-            },
-            Reply::Launched,
-        ),
-    }
 }
 
 impl Solo {
@@ -83,21 +62,28 @@ impl Solo {
         requires { IsSound call }
         ensures decided { Answers (decide self.old call limits.now.window) result }
         ensures kept { self.new ≡ after self.old call result }
+        ensures belongs { belongs call.action result ≡ true }
     {
         let now = call.moment.max(self.highest);
-        match rules::judge(&self.entries, &self.places, &call, now, limits.window) {
-            Verdict::New => {}
-            Verdict::Outside => return Reply::Outside { now },
-            Verdict::Used => return Reply::Used,
-            Verdict::WindowFull { live } => return Reply::WindowFull { live },
+        if !call.action.is_issue() {
+            match rules::judge(&self.entries, &self.places, &call, now, limits.window) {
+                Verdict::New => {}
+                Verdict::Outside => return Reply::Outside { now },
+                Verdict::Used => return Reply::Used,
+                Verdict::WindowFull { live } => return Reply::WindowFull { live },
+            }
         }
-        let (effect, reply) = perform(call.action);
+        let standing = self.standing_of(call.key.get(), call.action.id());
+        let reply = call.action.result(standing);
+        if !reply.is_acceptance() {
+            return reply;
+        }
         let entry = Entry {
             moment: now,
             key: call.key,
             timestamp: call.timestamp,
             nonce: call.nonce,
-            effect,
+            effect: effect_of(call.action, reply),
         };
         match rules::keep(&mut self.entries, &mut self.places, entry) {
             Ok(()) => {
@@ -106,5 +92,29 @@ impl Solo {
             }
             Err(_) => Reply::NoMemory,
         }
+    }
+
+    // How the id stands under the key, where there is one.
+    fn standing_of(&self, key: &str, id: Option<&str>) -> Standing
+        ensures { result ≡ standing_of self.now key.now (option_map (λ text. text.now) id.entry) }
+    {
+        match id {
+            Some(id) => standing_among(&self.entries, key, id),
+            None => Standing::Unknown,
+        }
+    }
+
+    /// How many entries there are.
+    pub fn len(&self) -> usize
+        ensures { result ≡ length self.now }
+    {
+        self.entries.len()
+    }
+
+    /// The entry at this place, counted from 0 in the order of acceptance.
+    pub fn entry(&self, place: usize) -> Option<&Entry>
+        ensures { option_copied result ≡ slice_get self.now place }
+    {
+        self.entries.get(place)
     }
 }

@@ -1,6 +1,7 @@
 //! The rules as calls of the machine, and the ranges of a call.
 use super::*;
 use lti_outside::{Limits, Text};
+use score_decimal::Score;
 use std::alloc::Global;
 use std::test::Fail;
 
@@ -59,16 +60,15 @@ fn an_accepted_call_raises_the_moment_and_a_refused_one_does_not(
     rt: HostRuntime,
 ) -> Result<(), Fail> {
     let alloc = rt.alloc();
-    let outside = Reply::Outside { now: 20_000 };
     let histories = [
         [
             (10_000, 10_000, "a", Reply::Noted),
             (20_000, 20_000, "b", Reply::Noted),
-            (10_000, 10_000, "a", outside),
+            (10_000, 10_000, "a", Reply::Outside { now: 20_000 }),
         ],
         [
             (10_000, 10_000, "a", Reply::Noted),
-            (20_000, 1, "b", outside),
+            (20_000, 1, "b", Reply::Outside { now: 20_000 }),
             (10_000, 10_000, "a", Reply::Used),
         ],
     ];
@@ -176,6 +176,192 @@ fn a_call_is_sound_within_its_ranges(rt: HostRuntime) -> Result<(), Fail> {
             action: Action::Note,
         };
         assert_eq!(rt; call.sound(), wanted, "{moment} {key} {timestamp} {nonce}");
+    }
+    Ok(())
+}
+
+// A signed call, with a nonce of its own for each moment.
+fn signed(alloc: Global, moment: u64, action: Action) -> Result<Call, Fail> {
+    Ok(Call {
+        action,
+        ..note(alloc, moment, "12345", moment, "n")?
+    })
+}
+
+// The operator's call that issues an id under a key.
+fn issue(alloc: Global, key: &str, id: &str) -> Result<Call, Fail> {
+    Ok(Call {
+        action: Action::Issue {
+            id: Text::new(alloc, id)?,
+        },
+        ..note(alloc, 1_400_000_000, key, 0, "")?
+    })
+}
+
+fn replace(alloc: Global, id: &str, score: Option<Score>) -> Result<Action, Fail> {
+    Ok(Action::Replace {
+        id: Text::new(alloc, id)?,
+        score,
+    })
+}
+
+fn read(alloc: Global, id: &str) -> Result<Action, Fail> {
+    Ok(Action::Read {
+        id: Text::new(alloc, id)?,
+    })
+}
+
+fn delete(alloc: Global, id: &str) -> Result<Action, Fail> {
+    Ok(Action::Delete {
+        id: Text::new(alloc, id)?,
+    })
+}
+
+#[test]
+fn an_issued_id_is_graded_read_and_deleted(rt: HostRuntime) -> Result<(), Fail> {
+    let alloc = rt.alloc();
+    let mut solo = Solo::new(alloc);
+    let score = Score::read("0.92");
+    let begun = 1_400_000_000;
+    assert_eq!(rt; reply(&mut solo, issue(alloc, "12345", "3124567")?, 100)?, Reply::Issued);
+    let cases = [
+        (
+            read(alloc, "3124567")?,
+            Reply::GradeRead { score: None },
+            "none yet",
+        ),
+        (replace(alloc, "3124567", score)?, Reply::Graded, "set"),
+        (read(alloc, "3124567")?, Reply::GradeRead { score }, "set before"),
+        (replace(alloc, "3124567", None)?, Reply::BadScore, "no score"),
+        (
+            read(alloc, "3124567")?,
+            Reply::GradeRead { score },
+            "after what was no score",
+        ),
+        (delete(alloc, "3124567")?, Reply::Deleted, "deleted"),
+        (delete(alloc, "3124567")?, Reply::Deleted, "deleted again"),
+        (
+            read(alloc, "3124567")?,
+            Reply::GradeRead { score: None },
+            "after it was deleted",
+        ),
+    ];
+    let mut moment = begun;
+    for (action, wanted, what) in cases {
+        assert_eq!(rt; reply(&mut solo, signed(alloc, moment, action)?, 100)?, wanted, "{what}");
+        moment += 1;
+    }
+    Ok(())
+}
+
+#[test]
+fn an_id_that_was_never_issued_is_unknown_and_uses_the_nonce(
+    rt: HostRuntime,
+) -> Result<(), Fail> {
+    let alloc = rt.alloc();
+    let mut solo = Solo::new(alloc);
+    let issued = issue(alloc, "other", "9")?;
+    assert_eq!(rt; reply(&mut solo, issued, 100)?, Reply::Issued);
+    let begun = 1_400_000_000;
+    for again in [Reply::UnknownId, Reply::Used] {
+        let cases = [
+            replace(alloc, "9", Score::read("0.92"))?,
+            replace(alloc, "9", None)?,
+            read(alloc, "9")?,
+            delete(alloc, "9")?,
+        ];
+        let mut moment = begun;
+        for action in cases {
+            let call = signed(alloc, moment, action)?;
+            assert_eq!(rt; reply(&mut solo, call, 100)?, again, "at {moment}");
+            moment += 1;
+        }
+    }
+    Ok(())
+}
+
+#[test]
+fn an_id_is_issued_once_for_each_key_and_keeps_its_grade(rt: HostRuntime) -> Result<(), Fail> {
+    let alloc = rt.alloc();
+    let mut solo = Solo::new(alloc);
+    let score = Score::read("1");
+    assert_eq!(rt; reply(&mut solo, issue(alloc, "12345", "1")?, 100)?, Reply::Issued);
+    let graded = signed(alloc, 1_400_000_000, replace(alloc, "1", score)?)?;
+    assert_eq!(rt; reply(&mut solo, graded, 100)?, Reply::Graded);
+    assert_eq!(rt; reply(&mut solo, issue(alloc, "12345", "1")?, 100)?, Reply::AlreadyIssued);
+    assert_eq!(rt; reply(&mut solo, issue(alloc, "other", "1")?, 100)?, Reply::Issued);
+    let call = signed(alloc, 1_400_000_001, read(alloc, "1")?)?;
+    assert_eq!(rt; reply(&mut solo, call, 100)?, Reply::GradeRead { score });
+    Ok(())
+}
+
+// Whether the effect gives this id this score.
+fn is_grade(effect: &Effect, wanted: &str, text: &str) -> bool {
+    match effect {
+        Effect::Grade { id, score } => {
+            id.get() == wanted && Score::read(text).is_some_and(|given| given == *score)
+        }
+        _ => false,
+    }
+}
+
+// Whether the effect takes the grade of this id away.
+fn is_cleared(effect: &Effect, wanted: &str) -> bool {
+    match effect {
+        Effect::Cleared { id } => id.get() == wanted,
+        _ => false,
+    }
+}
+
+#[test]
+fn the_list_has_the_accepted_calls_in_order(rt: HostRuntime) -> Result<(), Fail> {
+    let alloc = rt.alloc();
+    let mut solo = Solo::new(alloc);
+    assert_eq!(rt; reply(&mut solo, issue(alloc, "12345", "1")?, 100)?, Reply::Issued);
+    assert_eq!(rt; reply(&mut solo, issue(alloc, "12345", "1")?, 100)?, Reply::AlreadyIssued);
+    let graded = signed(alloc, 1_400_000_000, replace(alloc, "1", Score::read("0.5"))?)?;
+    assert_eq!(rt; reply(&mut solo, graded, 100)?, Reply::Graded);
+    assert_eq!(rt; solo.len(), 2);
+    let Some(entry) = solo.entry(1) else {
+        return Err("no entry".into());
+    };
+    let copy = entry.copy()?;
+    assert_eq!(rt; copy.moment, 1_400_000_000);
+    assert_eq!(rt; copy.timestamp, 1_400_000_000);
+    assert_eq!(rt; copy.key.get(), "12345");
+    assert_eq!(rt; copy.nonce.get(), "n");
+    assert!(rt; is_grade(&copy.effect, "1", "0.5"));
+    if solo.entry(2).is_some() {
+        return Err("an entry too many".into());
+    }
+    Ok(())
+}
+
+#[test]
+fn an_entry_is_made_of_a_call_and_its_reply(rt: HostRuntime) -> Result<(), Fail> {
+    let alloc = rt.alloc();
+    let deleted = signed(alloc, 1_400_000_000, delete(alloc, "1")?)?;
+    let entry = entry_of(&deleted, Reply::Deleted, 1_400_000_005)?;
+    assert_eq!(rt; entry.moment, 1_400_000_005);
+    assert_eq!(rt; entry.timestamp, 1_400_000_000);
+    assert!(rt; is_cleared(&entry.effect, "1"));
+    let unknown = entry_of(&deleted, Reply::UnknownId, 1_400_000_005)?;
+    assert!(rt; matches!(unknown.effect, Effect::Nothing));
+    Ok(())
+}
+
+#[test]
+fn an_operators_call_has_no_nonce(rt: HostRuntime) -> Result<(), Fail> {
+    let alloc = rt.alloc();
+    let cases = [(0, "", true), (1, "", false), (0, "n", false), (1, "n", false)];
+    for (timestamp, nonce, wanted) in cases {
+        let call = Call {
+            action: Action::Issue {
+                id: Text::new(alloc, "1")?,
+            },
+            ..note(alloc, 0, "12345", timestamp, nonce)?
+        };
+        assert_eq!(rt; call.sound(), wanted, "{timestamp} {nonce}");
     }
     Ok(())
 }
