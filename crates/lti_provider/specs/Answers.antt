@@ -1,7 +1,7 @@
 -- The answers to requests (this project's own; the statuses are those of RFC 9110, section 15).
-use Rattle.std.specs.Prelude.{ℕ, List, [], ◌∷◌, ◌++◌, codes, decimal, bytes_eq, if◌then◌else◌, Option, None, Some}
+use Rattle.std.specs.Prelude.{◌≡◌, ◌⊎◌, ℕ, List, [], ◌∷◌, ◌++◌, codes, decimal, bytes_eq, if◌then◌else◌, Option, None, Some}
 use Rattle.http_wire.specs.Message.{RequestParts, ResponseParts}
-use Rattle.http_wire.specs.declared.message.Media.TheVariants.{Plain}
+use Rattle.http_wire.specs.declared.message.Media.TheVariants.{Plain, Xml}
 use Rattle.http_wire.specs.declared.fault.WireFault.{WireFault}
 use Rattle.http_wire.specs.declared.fault.WireFault.TheVariants as wire
 use Rattle.oauth_request.specs.Protocol as protocol
@@ -12,6 +12,10 @@ use Rattle.lti_launch.specs.Fields.{name_of}
 use Rattle.lti_launch.specs.declared.fields.LaunchField.TheVariants.{ResourceLinkId}
 use Rattle.lti_launch.specs.declared.fault.LaunchFault.{LaunchFault}
 use Rattle.lti_launch.specs.declared.fault.LaunchFault.TheVariants as launch
+use Rattle.pox_outcomes.specs.Answered.{answer_text}
+use Rattle.pox_outcomes.specs.declared.outcome.Outcome.{Outcome}
+use Rattle.pox_outcomes.specs.declared.told.Told.{Told}
+use Rattle.lti_provider.specs.Outcomes.{IsTold}
 use Rattle.lti_machine.specs.declared.reply.Reply.{Reply}
 use Rattle.lti_machine.specs.declared.reply.Reply.TheVariants as reply
 
@@ -73,11 +77,26 @@ launch_text launch.NoMemory = codes "want of memory"
 abbrev pub launch_answer : LaunchFault → ResponseParts
 launch_answer fault = plain 400 (launch_text fault)
 
--- the answer to a reply of the machine
-abbrev pub render : Reply → ResponseParts
-render reply.Noted = plain 200 (codes "selection requested")
-render reply.Launched = plain 200 (codes "launched")
-render (reply.Outside now) = plain 401 (codes "outside the window at " ++ decimal now)
-render reply.Used = plain 401 (codes "nonce already used")
-render (reply.WindowFull live) = plain 503 (codes "window full at " ++ decimal live)
-render reply.NoMemory = no_memory_answer
+-- the answer to a body that is no envelope, of which so many bytes begin one
+abbrev pub envelope_answer : ℕ → ResponseParts
+envelope_answer at = plain 400 (codes "bad envelope at " ++ decimal at)
+
+-- the answer in plain text to a reply of the machine; a reply to an accepted outcome has none, and is told in an envelope
+abbrev pub plain_answer : Reply → Option ResponseParts
+plain_answer reply.Noted = Some (plain 200 (codes "selection requested"))
+plain_answer reply.Launched = Some (plain 200 (codes "launched"))
+plain_answer (reply.Outside now) = Some (plain 401 (codes "outside the window at " ++ decimal now))
+plain_answer reply.Used = Some (plain 401 (codes "nonce already used"))
+plain_answer (reply.WindowFull live) = Some (plain 503 (codes "window full at " ++ decimal live))
+plain_answer reply.NoMemory = Some no_memory_answer
+plain_answer given = None
+
+-- the envelope that tells what became of an outcome (LTI 1.1.1, section 6)
+abbrev pub told_answer : Outcome → Told → ResponseParts
+told_answer outcome told = record { status = 200; media = Xml; body = answer_text outcome told }
+
+-- the answer renders the reply to a request, where the request is an outcome's or none
+abbrev pub IsRendered : Option Outcome → Reply → ResponseParts → Type 0
+IsRendered None given answer = plain_answer given ≡ Some answer
+IsRendered (Some outcome) given answer =
+    (plain_answer given ≡ Some answer) ⊎ ((told : Told) × IsTold outcome given told × (answer ≡ told_answer outcome told))
