@@ -2,3 +2,8 @@ pub mod Calls
 pub mod Outcomes
 pub mod Answers
 pub mod Before
+pub mod Causes
+pub mod Unposted
+pub mod Made
+pub mod Passback
+pub mod Laws

@@ -1,0 +1,5 @@
+pub mod TextBytes
+pub mod UrlLemmas
+pub mod HeaderLemmas
+pub mod WritableLemmas
+pub mod PassbackLemmas
