@@ -13,7 +13,7 @@ use Rattle.lti_machine.specs.declared.standing.Standing.TheVariants.{Unknown, Em
 use Rattle.lti_machine.specs.Standings as standings
 use Rattle.gradebook.specs.Rows.{Owned, RowValue, same_owned, after_effect, after_entry, issued, row_of, rows_of}
 use Rattle.gradebook.specs.Placements as placements
-use Rattle.gradebook.specs.Book.{BookValue, PlacedValue, is_placed, Holds, Adds, standing_in, placement_in}
+use Rattle.gradebook.specs.Book.{BookValue, PlacedValue, is_placed, Holds, Adds, SameContents, standing_in, placement_in}
 use Rattle.gradebook.specs.Tables.{set_row, add_row, put_placed}
 use Rattle.gradebook.proofs.IssuedLemmas.{is_known, nested, same_both, same_from_test, same_itself, Apart, AreKnown, row_by, known_head, known_tail, has_row-by, standing_in-by, issued_apart, known_is_issued, unknown_from}
 use Rattle.gradebook.proofs.PlacedLemmas.{placement_in-put}
@@ -186,3 +186,11 @@ adds_entry before after e rows placed = λ entries holds.
           ∙ ap (λ old. cond (bytes_eq e.key key) (placements.after_effect link user old e.effect) old) (holds.placement key link user)
           ∙ sym (fold-append (placements.after_entry key link user) None entries (e ∷ []));
     }
+
+-- a book with the same rows and the same placements
+pub same_contents : (before after : BookValue) → after.rows ≡ before.rows → after.placed ≡ before.placed → SameContents before after
+same_contents before after rows placed = record {
+  rows = rows;
+  standing = λ key id. ap (λ all. standing_in all key id) rows;
+  placement = λ key link user. ap (λ all. placement_in all key link user) placed;
+}

@@ -26,7 +26,7 @@ same_from_test a b test =
     let ids = same_bytes _ _ parts.1 in
     λ i. record { key = keys i; id = ids i }
 
-same_itself : (a : Owned) → same_owned a a ≡ true
+pub same_itself : (a : Owned) → same_owned a a ≡ true
 same_itself a = and_from (bytes_eq a.key a.key) (bytes_eq a.id a.id) (bytes_same a.key a.key refl) (bytes_same a.id a.id refl)
 
 same_flips : (a b : Owned) → same_owned a b ≡ same_owned b a
@@ -88,7 +88,7 @@ is_known Unknown = false
 is_known Empty = true
 is_known (Scored score) = true
 
-nested : {A : Type 0} (a b : Bool) (x y : A) → cond a (cond b x y) y ≡ cond (a && b) x y
+pub nested : {A : Type 0} (a b : Bool) (x y : A) → cond a (cond b x y) y ≡ cond (a && b) x y
 nested true b x y = refl
 nested false b x y = refl
 
@@ -105,7 +105,7 @@ known_set Unknown w known true true = refl
 known_set Empty w known true true = known
 known_set (Scored score) w known true true = known
 
-same_both : {A : Type 0} (b : Bool) (x : A) → cond b x x ≡ x
+pub same_both : {A : Type 0} (b : Bool) (x : A) → cond b x x ≡ x
 same_both true x = refl
 same_both false x = refl
 
@@ -147,10 +147,10 @@ row_by stands p = record { key = p.key; id = p.id; standing = stands p.key p.id 
 abbrev pub AreKnown : (List ℕ → List ℕ → Standing) → List Owned → Type 0
 AreKnown stands os = (p : Owned) → list_any (same_owned p) os ≡ true → is_known (stands p.key p.id) ≡ true
 
-known_head : (stands : List ℕ → List ℕ → Standing) (p : Owned) (ps : List Owned) → AreKnown stands (p ∷ ps) → is_known (stands p.key p.id) ≡ true
+pub known_head : (stands : List ℕ → List ℕ → Standing) (p : Owned) (ps : List Owned) → AreKnown stands (p ∷ ps) → is_known (stands p.key p.id) ≡ true
 known_head stands p ps known = known p (or_left (same_owned p p) (list_any (same_owned p) ps) (same_itself p))
 
-known_tail : (stands : List ℕ → List ℕ → Standing) (p : Owned) (ps : List Owned) → AreKnown stands (p ∷ ps) → AreKnown stands ps
+pub known_tail : (stands : List ℕ → List ℕ → Standing) (p : Owned) (ps : List Owned) → AreKnown stands (p ∷ ps) → AreKnown stands ps
 known_tail stands p ps known = λ q there. known q (or_right (same_owned q p) (list_any (same_owned q) ps) there)
 
 pub has_row-by : (stands : List ℕ → List ℕ → Standing) (o : Owned) (os : List Owned) → has_row (map (row_by stands) os) o.key o.id ≡ list_any (same_owned o) os
