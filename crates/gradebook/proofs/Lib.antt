@@ -1,0 +1,5 @@
+pub mod TextLemmas
+pub mod RowLemmas
+pub mod PlacedLemmas
+pub mod IssuedLemmas
+pub mod BookLemmas

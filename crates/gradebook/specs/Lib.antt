@@ -1,0 +1,7 @@
+pub mod Rows
+pub mod Placements
+pub mod Book
+pub mod Texts
+pub mod Tables
+pub mod Inside
+pub mod Laws

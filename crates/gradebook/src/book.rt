@@ -1,0 +1,180 @@
+// The book of grades.
+ghost use Rattle.std.specs.Prelude.{◌≡◌, [], List, length, slice_get, true, OnOk, IfOk};
+ghost use Rattle.std.specs.Option.{option_map};
+ghost use Rattle.lti_machine.specs.declared.entry.Entry.{Entry as Accepted};
+ghost use Rattle.lti_machine.specs.Belongs.{belongs};
+ghost use Rattle.lti_machine.specs.Rules as rules;
+ghost use Rattle.lti_machine.specs.Standings as standings;
+ghost use Rattle.gradebook.specs.Book.{Holds, Adds, SameContents, IsReady};
+ghost use Rattle.gradebook.specs.Rows.{rows_of};
+ghost use Rattle.gradebook.specs.Placements as placements;
+
+use crate::placement::Placement;
+use crate::placements::{self, Placements, Target};
+use crate::row::Row;
+use crate::standings::{self, Standings};
+use crate::texts::Texts;
+use indexmap::IndexMap;
+use lti_machine::{Call, Effect, Entry, Reply, Standing};
+use lti_outside::NoMemory;
+use std::alloc::Global;
+use std::marker::Model;
+
+/// The issued ids with their grades, and where grades go, by all entries that were ever applied.
+///
+/// Each text is kept once. A question costs a look-up of each of its texts and one of their numbers, and takes no memory.
+#[derive(Drop)]
+pub struct Gradebook {
+    texts: Texts,
+    standings: Standings,
+    placements: Placements,
+}
+
+impl Model for Gradebook {
+    ghost use Rattle.gradebook.specs.Book.{BookValue};
+
+    ghost Value = { BookValue };
+
+    ghost use Rattle.gradebook.specs.Inside.{value_of, IsSound};
+
+    ghost view = { value_of };
+
+    ghost invariant = { IsSound };
+}
+
+impl Gradebook {
+    /// The book of no entries.
+    pub fn new(alloc: Global) -> Result<Gradebook, NoMemory>
+        ensures { IfOk result (λ book. Holds book []) }
+    {
+        Ok(Gradebook {
+            texts: Texts::new(alloc),
+            standings: IndexMap::new(alloc),
+            placements: IndexMap::new(alloc),
+        })
+    }
+
+    /// The reply to what the call asks, where nothing speaks against its nonce.
+    pub fn reply(&self, call: &Call) -> Reply
+        ensures reply { (entries : List Accepted) → Holds self.now entries → result ≡ rules.result entries call.now }
+        ensures belongs { belongs call.now.action result ≡ true }
+    {
+        let standing = match call.action.id() {
+            Some(id) => self.grade(call.key.get(), id),
+            None => Standing::Unknown,
+        };
+        call.action.result(standing)
+    }
+
+    /// Makes room for one entry, so that `apply` of it takes no memory. The room is for this entry alone, and lasts
+    /// until the next call that changes the book. Whether it is made or not, the book tells what it told.
+    pub fn prepare(&mut self, entry: &Entry) -> Result<(), NoMemory>
+        ensures contents { SameContents self.old self.new }
+        ensures ready { OnOk result (IsReady self.new entry.now) }
+    {
+        let key = entry.key.get();
+        match &entry.effect {
+            Effect::Issued { id } => {
+                standings::make_room(&mut self.texts, &mut self.standings, key, id.get())
+            }
+            Effect::Launch { link, user, .. } => placements::make_room(
+                &mut self.texts,
+                &mut self.placements,
+                key,
+                link.get(),
+                user.get(),
+            ),
+            Effect::Nothing | Effect::Grade { .. } | Effect::Cleared { .. } => Ok(()),
+        }
+    }
+
+    /// Adds an entry for which room was made. It takes no memory.
+    pub fn apply(&mut self, entry: Entry)
+        requires { IsReady self.old entry }
+        ensures { Adds self.old self.new entry }
+    {
+        let key = entry.key;
+        let key = key.get();
+        let effect = entry.effect;
+        match effect {
+            Effect::Nothing => {}
+            Effect::Issued { id } => {
+                standings::issue(&self.texts, &mut self.standings, key, id.get());
+            }
+            Effect::Grade { id, score } => {
+                standings::set(
+                    &self.texts,
+                    &mut self.standings,
+                    key,
+                    id.get(),
+                    Standing::Scored(score),
+                );
+            }
+            Effect::Cleared { id } => {
+                standings::set(
+                    &self.texts,
+                    &mut self.standings,
+                    key,
+                    id.get(),
+                    Standing::Empty,
+                );
+            }
+            Effect::Launch {
+                link,
+                user,
+                sourced_id,
+                service,
+            } => {
+                placements::place(
+                    &self.texts,
+                    &mut self.placements,
+                    key,
+                    link.get(),
+                    user.get(),
+                    Target {
+                        sourced_id,
+                        service,
+                    },
+                );
+            }
+        }
+    }
+
+    /// How the grade of an id stands under a key.
+    pub fn grade(&self, key: &str, id: &str) -> Standing
+        ensures { (entries : List Accepted) → Holds self.now entries → result ≡ standings.standing entries key.now id.now }
+    {
+        standings::standing_of(&self.texts, &self.standings, key, id)
+    }
+
+    /// How many ids are issued.
+    pub fn rows(&self) -> usize
+        ensures { (entries : List Accepted) → Holds self.now entries → result ≡ length (rows_of entries) }
+    {
+        self.standings.len()
+    }
+
+    /// The issued id at this place, counted from 0 in the order of first issue.
+    pub fn row(&self, place: usize) -> Option<Row<'_>>
+        ensures { (entries : List Accepted) → Holds self.now entries → option_map (λ row. record { key = row.key.now; id = row.id.now; standing = row.standing }) result ≡ slice_get (rows_of entries) place }
+    {
+        let (numbers, standing) = self.standings.get_index(place)?;
+        Some(Row {
+            key: self.texts.text(numbers.0),
+            id: self.texts.text(numbers.1),
+            standing: *standing,
+        })
+    }
+
+    /// Where the grade of a user of a resource link goes under a key, by the last launch of that user from
+    /// that link; `None` where there was none.
+    pub fn placement(&self, key: &str, link: &str, user: &str) -> Option<Placement<'_>>
+        ensures { (entries : List Accepted) → Holds self.now entries → option_map (λ placement. record { sourced_id = placement.sourced_id.now; service = placement.service.now }) result ≡ placements.placement entries key.now link.now user.now }
+    {
+        let target = placements::target_of(&self.texts, &self.placements, key, link, user)?;
+        Some(Placement {
+            sourced_id: target.sourced_id.get(),
+            service: target.service.get(),
+        })
+    }
+}

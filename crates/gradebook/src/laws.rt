@@ -1,0 +1,7 @@
+// What holds of all lists of entries.
+ghost use Rattle.gradebook.specs.Laws.{UnknownIsNotIssued};
+
+/// An id is unknown under a key exactly where it isn't among the issued ids: what has a grade was issued.
+pub fn unknown_is_not_issued()
+    ensures { UnknownIsNotIssued }
+{}
