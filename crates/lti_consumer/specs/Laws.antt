@@ -27,7 +27,7 @@ signed_as key moment nonce q = record { key = key; timestamp = moment; nonce = n
 pub record AsksLaunch (other : checked.Terms) (terms : Terms) (key : List ℕ) (moment : ℕ) (nonce : List ℕ) (q : RequestParts) : Type 0 where
   pub believed : IsBelieved other key moment nonce q
   pub call : IsLaunchCall (checked.parameters q) (launch_action terms)
-  pub asked : route_refusal q ≡ None → IsAsked other q (signed_as key moment nonce q) (launch_action terms)
+  pub asked : route_refusal q ≡ None → IsAsked other q (signed_as key moment nonce q) None (launch_action terms)
 
 -- A launch form that is posted to its URL asks to note the launch of its terms, at an end that knows the key with this
 -- secret, takes a key and a nonce as long as these, and is reached by the URL's scheme, where the URL's query has no

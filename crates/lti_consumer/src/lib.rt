@@ -1,16 +1,21 @@
-//! The learning system's end of LTI: the messages by which it starts a tool.
+//! The learning system's end of LTI: the messages that start a tool, and the service that takes its grades.
 //!
-//! LTI 1.1.1, section 3: a tool is started by a form that the user's browser posts, signed by OAuth 1.0 (section 4.2).
-//! `launch_form` makes that form. Promised: the form is the signed form of exactly the parameters that its terms give, and
-//! posted to an end that knows the key, it is well signed and asks to note exactly that launch (`launch_is_noted`).
+//! LTI 1.1.1, section 3: a tool is started by a signed form that the user's browser posts, and `launch_form` makes it.
+//! Section 6: the tool sends outcomes, which `outcome_call` reads and `outcome_answer` answers.
+//! Promised: a form is the signed form of its terms, and the end that knows the key notes exactly that launch; bytes ask
+//! exactly what their outcome asks; and each reply to an accepted outcome is told by one envelope.
 #![tactic(auto)]
 
+mod answers;
+mod calls;
 mod forms;
 mod laws;
 mod terms;
 #[cfg(test)]
 mod tests;
 
+pub use answers::outcome_answer;
+pub use calls::outcome_call;
 pub use forms::launch_form;
-pub use laws::launch_is_noted;
+pub use laws::{accepted_is_told, launch_is_noted, one_telling};
 pub use terms::Terms;
