@@ -10,6 +10,8 @@ mod answers;
 mod calls;
 mod forms;
 mod laws;
+#[cfg(test)]
+mod outcome_tests;
 mod terms;
 #[cfg(test)]
 mod tests;
