@@ -2,14 +2,17 @@
 //!
 //! LTI 1.1.1, section 3: a tool is started by a signed form that the user's browser posts, and `launch_form` makes it.
 //! Section 6: the tool sends outcomes, which `outcome_call` reads and `outcome_answer` answers.
-//! Promised: a form is the signed form of its terms, and the end that knows the key notes exactly that launch; bytes ask
-//! exactly what their outcome asks; and each reply to an accepted outcome is told by one envelope.
+//! Promised: a form is the signed form of its terms, and asks the end that knows the key to note exactly that launch
+//! (`launch_is_noted`); bytes ask exactly what the outcome that they spell asks; and a reply to an accepted outcome is told
+//! (`accepted_is_told`), by one envelope (`one_telling`).
 #![tactic(auto)]
 
 mod answers;
 mod calls;
 mod forms;
 mod laws;
+#[cfg(test)]
+mod outcome_tests;
 mod terms;
 #[cfg(test)]
 mod tests;
