@@ -1,3 +1,3 @@
 mod FieldLemmas
 mod LaunchLemmas
-mod OutcomeLemmas
+pub mod OutcomeLemmas

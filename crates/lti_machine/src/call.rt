@@ -34,14 +34,23 @@ pub enum Action {
     },
     /// To give an id a grade (`replaceResult`, LTI 1.1.1 section 6.1.1). `score` is `None` where what was sent
     /// is no score.
-    Replace { id: Text, score: Option<Score> },
+    Replace {
+        id: Text,
+        score: Option<Score>,
+    },
     /// To tell the grade of an id (`readResult`, section 6.1.2).
-    Read { id: Text },
+    Read {
+        id: Text,
+    },
     /// To take the grade of an id away (`deleteResult`, section 6.1.3).
-    Delete { id: Text },
+    Delete {
+        id: Text,
+    },
     /// To take grades of an id from now on. It is the operator's own call, which nobody signs: it has no
     /// nonce, and its timestamp is 0.
-    Issue { id: Text },
+    Issue {
+        id: Text,
+    },
 }
 
 impl Action {

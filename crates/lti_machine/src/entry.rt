@@ -20,11 +20,18 @@ pub enum Effect {
         service: Text,
     },
     /// The id has this grade.
-    Grade { id: Text, score: Score },
+    Grade {
+        id: Text,
+        score: Score,
+    },
     /// The id has no grade any more.
-    Cleared { id: Text },
+    Cleared {
+        id: Text,
+    },
     /// Grades of the id are taken from now on.
-    Issued { id: Text },
+    Issued {
+        id: Text,
+    },
 }
 
 /// What is kept of an accepted call.

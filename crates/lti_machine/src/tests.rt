@@ -55,34 +55,35 @@ fn a_timestamp_is_inside_up_to_its_edges(rt: HostRuntime) -> Result<(), Fail> {
     Ok(())
 }
 
+// The reply to the last of these calls, each with its moment, its timestamp and its nonce.
+fn last_reply(alloc: Global, calls: &[(u64, u64, &str)]) -> Result<Reply, Fail> {
+    let mut solo = Solo::new(alloc);
+    let mut last = Reply::NoMemory;
+    for (moment, timestamp, nonce) in calls {
+        let call = note(alloc, *moment, "12345", *timestamp, nonce)?;
+        last = reply(&mut solo, call, 100_000)?;
+    }
+    Ok(last)
+}
+
 #[test]
 fn an_accepted_call_raises_the_moment_and_a_refused_one_does_not(
     rt: HostRuntime,
 ) -> Result<(), Fail> {
     let alloc = rt.alloc();
-    let histories = [
-        [
-            (10_000, 10_000, "a", Reply::Noted),
-            (20_000, 20_000, "b", Reply::Noted),
-            (10_000, 10_000, "a", Reply::Outside { now: 20_000 }),
-        ],
-        [
-            (10_000, 10_000, "a", Reply::Noted),
-            (20_000, 1, "b", Reply::Outside { now: 20_000 }),
-            (10_000, 10_000, "a", Reply::Used),
-        ],
-    ];
-    for history in histories {
-        let mut solo = Solo::new(alloc);
-        for (moment, timestamp, nonce, wanted) in history {
-            let call = note(alloc, moment, "12345", timestamp, nonce)?;
-            assert_eq!(rt;
-                reply(&mut solo, call, 100_000)?,
-                wanted,
-                "at {moment}, {timestamp}"
-            );
-        }
-    }
+    let first = (10_000, 10_000, "a");
+    let accepted = (20_000, 20_000, "b");
+    let refused = (20_000, 1, "b");
+    assert_eq!(rt; last_reply(alloc, &[first, accepted])?, Reply::Noted);
+    assert_eq!(rt;
+        last_reply(alloc, &[first, accepted, first])?,
+        Reply::Outside { now: 20_000 }
+    );
+    assert_eq!(rt;
+        last_reply(alloc, &[first, refused])?,
+        Reply::Outside { now: 20_000 }
+    );
+    assert_eq!(rt; last_reply(alloc, &[first, refused, first])?, Reply::Used);
     Ok(())
 }
 
@@ -217,66 +218,77 @@ fn delete(alloc: Global, id: &str) -> Result<Action, Fail> {
     })
 }
 
+// The reply to a signed call of this action at this moment.
+fn reply_to(solo: &mut Solo, alloc: Global, moment: u64, action: Action) -> Result<Reply, Fail> {
+    reply(solo, signed(alloc, moment, action)?, 100)
+}
+
 #[test]
 fn an_issued_id_is_graded_read_and_deleted(rt: HostRuntime) -> Result<(), Fail> {
     let alloc = rt.alloc();
     let mut solo = Solo::new(alloc);
     let score = Score::read("0.92");
-    let begun = 1_400_000_000;
-    assert_eq!(rt; reply(&mut solo, issue(alloc, "12345", "3124567")?, 100)?, Reply::Issued);
-    let cases = [
-        (
-            read(alloc, "3124567")?,
-            Reply::GradeRead { score: None },
-            "none yet",
-        ),
-        (replace(alloc, "3124567", score)?, Reply::Graded, "set"),
-        (read(alloc, "3124567")?, Reply::GradeRead { score }, "set before"),
-        (replace(alloc, "3124567", None)?, Reply::BadScore, "no score"),
-        (
-            read(alloc, "3124567")?,
-            Reply::GradeRead { score },
-            "after what was no score",
-        ),
-        (delete(alloc, "3124567")?, Reply::Deleted, "deleted"),
-        (delete(alloc, "3124567")?, Reply::Deleted, "deleted again"),
-        (
-            read(alloc, "3124567")?,
-            Reply::GradeRead { score: None },
-            "after it was deleted",
-        ),
-    ];
-    let mut moment = begun;
-    for (action, wanted, what) in cases {
-        assert_eq!(rt; reply(&mut solo, signed(alloc, moment, action)?, 100)?, wanted, "{what}");
-        moment += 1;
-    }
+    assert_eq!(rt;
+        reply(&mut solo, issue(alloc, "12345", "1")?, 100)?,
+        Reply::Issued
+    );
+    let none = reply_to(&mut solo, alloc, 1_400_000_000, read(alloc, "1")?)?;
+    assert_eq!(rt; none, Reply::GradeRead { score: None });
+    let set = reply_to(&mut solo, alloc, 1_400_000_001, replace(alloc, "1", score)?)?;
+    assert_eq!(rt; set, Reply::Graded);
+    let bad = reply_to(&mut solo, alloc, 1_400_000_002, replace(alloc, "1", None)?)?;
+    assert_eq!(rt; bad, Reply::BadScore);
+    let told = reply_to(&mut solo, alloc, 1_400_000_003, read(alloc, "1")?)?;
+    assert_eq!(rt; told, Reply::GradeRead { score });
     Ok(())
 }
 
 #[test]
-fn an_id_that_was_never_issued_is_unknown_and_uses_the_nonce(
-    rt: HostRuntime,
-) -> Result<(), Fail> {
+fn a_deleted_grade_is_none_and_may_be_deleted_again(rt: HostRuntime) -> Result<(), Fail> {
     let alloc = rt.alloc();
     let mut solo = Solo::new(alloc);
-    let issued = issue(alloc, "other", "9")?;
-    assert_eq!(rt; reply(&mut solo, issued, 100)?, Reply::Issued);
-    let begun = 1_400_000_000;
-    for again in [Reply::UnknownId, Reply::Used] {
-        let cases = [
-            replace(alloc, "9", Score::read("0.92"))?,
-            replace(alloc, "9", None)?,
-            read(alloc, "9")?,
-            delete(alloc, "9")?,
-        ];
-        let mut moment = begun;
-        for action in cases {
-            let call = signed(alloc, moment, action)?;
-            assert_eq!(rt; reply(&mut solo, call, 100)?, again, "at {moment}");
-            moment += 1;
-        }
+    assert_eq!(rt;
+        reply(&mut solo, issue(alloc, "12345", "1")?, 100)?,
+        Reply::Issued
+    );
+    let set = replace(alloc, "1", Score::read("0.92"))?;
+    assert_eq!(rt;
+        reply_to(&mut solo, alloc, 1_400_000_000, set)?,
+        Reply::Graded
+    );
+    for moment in [1_400_000_001, 1_400_000_002] {
+        let deleted = reply_to(&mut solo, alloc, moment, delete(alloc, "1")?)?;
+        assert_eq!(rt; deleted, Reply::Deleted, "at {moment}");
     }
+    let told = reply_to(&mut solo, alloc, 1_400_000_003, read(alloc, "1")?)?;
+    assert_eq!(rt; told, Reply::GradeRead { score: None });
+    Ok(())
+}
+
+#[test]
+fn an_id_that_was_never_issued_is_unknown_and_uses_the_nonce(rt: HostRuntime) -> Result<(), Fail> {
+    let alloc = rt.alloc();
+    let mut solo = Solo::new(alloc);
+    assert_eq!(rt;
+        reply(&mut solo, issue(alloc, "other", "9")?, 100)?,
+        Reply::Issued
+    );
+    let set = replace(alloc, "9", Score::read("0.92"))?;
+    assert_eq!(rt;
+        reply_to(&mut solo, alloc, 1_400_000_000, set)?,
+        Reply::UnknownId
+    );
+    let bad = replace(alloc, "9", None)?;
+    assert_eq!(rt;
+        reply_to(&mut solo, alloc, 1_400_000_001, bad)?,
+        Reply::UnknownId
+    );
+    let told = reply_to(&mut solo, alloc, 1_400_000_002, read(alloc, "9")?)?;
+    assert_eq!(rt; told, Reply::UnknownId);
+    let deleted = reply_to(&mut solo, alloc, 1_400_000_003, delete(alloc, "9")?)?;
+    assert_eq!(rt; deleted, Reply::UnknownId);
+    let again = reply_to(&mut solo, alloc, 1_400_000_003, delete(alloc, "9")?)?;
+    assert_eq!(rt; again, Reply::Used);
     Ok(())
 }
 
@@ -285,11 +297,20 @@ fn an_id_is_issued_once_for_each_key_and_keeps_its_grade(rt: HostRuntime) -> Res
     let alloc = rt.alloc();
     let mut solo = Solo::new(alloc);
     let score = Score::read("1");
-    assert_eq!(rt; reply(&mut solo, issue(alloc, "12345", "1")?, 100)?, Reply::Issued);
+    assert_eq!(rt;
+        reply(&mut solo, issue(alloc, "12345", "1")?, 100)?,
+        Reply::Issued
+    );
     let graded = signed(alloc, 1_400_000_000, replace(alloc, "1", score)?)?;
     assert_eq!(rt; reply(&mut solo, graded, 100)?, Reply::Graded);
-    assert_eq!(rt; reply(&mut solo, issue(alloc, "12345", "1")?, 100)?, Reply::AlreadyIssued);
-    assert_eq!(rt; reply(&mut solo, issue(alloc, "other", "1")?, 100)?, Reply::Issued);
+    assert_eq!(rt;
+        reply(&mut solo, issue(alloc, "12345", "1")?, 100)?,
+        Reply::AlreadyIssued
+    );
+    assert_eq!(rt;
+        reply(&mut solo, issue(alloc, "other", "1")?, 100)?,
+        Reply::Issued
+    );
     let call = signed(alloc, 1_400_000_001, read(alloc, "1")?)?;
     assert_eq!(rt; reply(&mut solo, call, 100)?, Reply::GradeRead { score });
     Ok(())
@@ -317,9 +338,19 @@ fn is_cleared(effect: &Effect, wanted: &str) -> bool {
 fn the_list_has_the_accepted_calls_in_order(rt: HostRuntime) -> Result<(), Fail> {
     let alloc = rt.alloc();
     let mut solo = Solo::new(alloc);
-    assert_eq!(rt; reply(&mut solo, issue(alloc, "12345", "1")?, 100)?, Reply::Issued);
-    assert_eq!(rt; reply(&mut solo, issue(alloc, "12345", "1")?, 100)?, Reply::AlreadyIssued);
-    let graded = signed(alloc, 1_400_000_000, replace(alloc, "1", Score::read("0.5"))?)?;
+    assert_eq!(rt;
+        reply(&mut solo, issue(alloc, "12345", "1")?, 100)?,
+        Reply::Issued
+    );
+    assert_eq!(rt;
+        reply(&mut solo, issue(alloc, "12345", "1")?, 100)?,
+        Reply::AlreadyIssued
+    );
+    let graded = signed(
+        alloc,
+        1_400_000_000,
+        replace(alloc, "1", Score::read("0.5"))?,
+    )?;
     assert_eq!(rt; reply(&mut solo, graded, 100)?, Reply::Graded);
     assert_eq!(rt; solo.len(), 2);
     let Some(entry) = solo.entry(1) else {
@@ -353,7 +384,12 @@ fn an_entry_is_made_of_a_call_and_its_reply(rt: HostRuntime) -> Result<(), Fail>
 #[test]
 fn an_operators_call_has_no_nonce(rt: HostRuntime) -> Result<(), Fail> {
     let alloc = rt.alloc();
-    let cases = [(0, "", true), (1, "", false), (0, "n", false), (1, "n", false)];
+    let cases = [
+        (0, "", true),
+        (1, "", false),
+        (0, "n", false),
+        (1, "n", false),
+    ];
     for (timestamp, nonce, wanted) in cases {
         let call = Call {
             action: Action::Issue {

@@ -15,12 +15,19 @@ use Rattle.http_wire.specs.declared.fault.WireFault.{WireFault}
 use Rattle.http_wire.specs.declared.fault.WireFault.TheVariants as wire
 use Rattle.http_wire.proofs.UniqueLemmas.{one_spelling, none_without_head}
 use Rattle.http_wire.proofs.FirstLemmas.{faults_are_first}
-use Rattle.oauth_request.specs.Checked.{Terms}
+use Rattle.oauth_request.specs.Checked.{Terms, parameters}
+use Rattle.lti_launch.specs.Faults.{fault_of}
+use Rattle.lti_launch.specs.declared.fault.LaunchFault.{LaunchFault}
 use Rattle.oauth_request.specs.declared.checking.Signed.{Signed}
 use Rattle.oauth_request.proofs.OneAnswerLemmas as auth
 use Rattle.lti_machine.specs.declared.reply.Reply.{Reply}
-use Rattle.lti_provider.specs.Answers.{answer_to, auth_answer, launch_answer, render, wire_answer}
-use Rattle.lti_provider.specs.Before.{IsRefused, IsAsked}
+use Rattle.lti_provider.specs.Answers.{answer_to, auth_answer, launch_answer, envelope_answer, wire_answer, IsRendered}
+use Rattle.lti_provider.specs.Before.{is_for_launches, IsRefused, IsAsked, IsCall}
+use Rattle.pox_outcomes.specs.Request.{IsEnvelope, EnvelopeOf}
+use Rattle.pox_outcomes.specs.BadAt.{IsBadAt}
+use Rattle.pox_outcomes.specs.declared.outcome.Outcome.{Outcome}
+use Rattle.pox_outcomes.proofs.DocumentLemmas.{envelope_once}
+use Rattle.pox_outcomes.proofs.EndLemmas.{document_once}
 use Rattle.lti_machine.specs.declared.call.Action.{Action}
 use Rattle.lti_server.specs.Exchange.{Service, Member, Exchange, Progress, IsAnswer, Runs, told_by, read_of, written_of, told_of, ends_with}
 use Rattle.lti_server.specs.Talk.{EndTells, last_answer}
@@ -28,6 +35,7 @@ use Rattle.lti_server.specs.Laws.{IsUndisturbed, replies_of, CutsDoNotMatter}
 use Rattle.lti_server.specs.declared.session_end.SessionEnd.{SessionEnd}
 use Rattle.lti_server.specs.declared.session_end.SessionEnd.TheVariants.{Ended, LimitReached, CutShort, ReadFault, WriteFault, Refused, NoMemory}
 use Rattle.lti_server.proofs.EndLemmas.{fault_after}
+use Rattle.lti_server.proofs.RenderLemmas.{rendered_once}
 
 -- the fault has an answer
 abbrev IsAnswered : WireFault → Type 0
@@ -167,24 +175,52 @@ same_some o x y one other = ap (λ v. value_in v x) (sym one ∙ other)
 not_both : {A : Type 0} (o : Option A) (x : A) → o ≡ Some x → o ≡ None → ⊥
 not_both o x one other = let e = sym one ∙ other in cc
 
+-- bytes stop being an envelope at one place
+one_place : (bytes : List ℕ) (a b : ℕ) → IsBadAt EnvelopeOf bytes a → IsBadAt EnvelopeOf bytes b → a ≡ b
+one_place bytes a b one other = omega (arith, one.longest b other.within other.begins, other.longest a one.within one.begins)
+
 -- a refusal has one answer
 refused_unique : (terms : Terms) (q : RequestParts) (a b : ResponseParts) → IsRefused terms q a → IsRefused terms q b → a ≡ b
 refused_unique terms q a b (inl x) (inl y) = x.answer_is ∙ ap (λ r. answer_to q r) (same_some _ x.refusal y.refusal x.refused y.refused) ∙ sym y.answer_is
 refused_unique terms q a b (inl x) (inr (inl y)) = absurd (not_both _ x.refusal x.refused y.routed)
-refused_unique terms q a b (inl x) (inr (inr y)) = absurd (not_both _ x.refusal x.refused y.routed)
+refused_unique terms q a b (inl x) (inr (inr (inl y))) = absurd (not_both _ x.refusal x.refused y.routed)
+refused_unique terms q a b (inl x) (inr (inr (inr y))) = absurd (not_both _ x.refusal x.refused y.routed)
 refused_unique terms q a b (inr (inl x)) (inl y) = absurd (not_both _ y.refusal y.refused x.routed)
-refused_unique terms q a b (inr (inr x)) (inl y) = absurd (not_both _ y.refusal y.refused x.routed)
+refused_unique terms q a b (inr (inr (inl x))) (inl y) = absurd (not_both _ y.refusal y.refused x.routed)
+refused_unique terms q a b (inr (inr (inr x))) (inl y) = absurd (not_both _ y.refusal y.refused x.routed)
 refused_unique terms q a b (inr (inl x)) (inr (inl y)) =
     x.answer_is ∙ ap auth_answer ((auth.one_answer terms q).one x.fault y.fault x.is_fault y.is_fault x.known y.known) ∙ sym y.answer_is
-refused_unique terms q a b (inr (inl x)) (inr (inr y)) = absurd (x.known ((auth.one_answer terms q).none x.fault y.well_signed x.is_fault))
-refused_unique terms q a b (inr (inr x)) (inr (inl y)) = absurd (y.known ((auth.one_answer terms q).none y.fault x.well_signed y.is_fault))
-refused_unique terms q a b (inr (inr x)) (inr (inr y)) = x.answer_is ∙ ap launch_answer (same_some _ x.fault y.fault x.is_fault y.is_fault) ∙ sym y.answer_is
+refused_unique terms q a b (inr (inl x)) (inr (inr (inl y))) = absurd (x.known ((auth.one_answer terms q).none x.fault y.well_signed x.is_fault))
+refused_unique terms q a b (inr (inl x)) (inr (inr (inr y))) = absurd (x.known ((auth.one_answer terms q).none x.fault y.well_signed x.is_fault))
+refused_unique terms q a b (inr (inr (inl x))) (inr (inl y)) = absurd (y.known ((auth.one_answer terms q).none y.fault x.well_signed y.is_fault))
+refused_unique terms q a b (inr (inr (inr x))) (inr (inl y)) = absurd (y.known ((auth.one_answer terms q).none y.fault x.well_signed y.is_fault))
+refused_unique terms q a b (inr (inr (inl x))) (inr (inr (inl y))) = x.answer_is ∙ ap launch_answer (same_some _ x.fault y.fault x.is_fault y.is_fault) ∙ sym y.answer_is
+refused_unique terms q a b (inr (inr (inl x))) (inr (inr (inr y))) = absurd (both (is_for_launches q) x.path y.path)
+refused_unique terms q a b (inr (inr (inr x))) (inr (inr (inl y))) = absurd (both (is_for_launches q) y.path x.path)
+refused_unique terms q a b (inr (inr (inr x))) (inr (inr (inr y))) = x.answer_is ∙ ap envelope_answer (one_place q.body x.at y.at x.is_bad y.is_bad) ∙ sym y.answer_is
+
+-- a request that has no launch, or no envelope, asks nothing
+no_launch_asked : (q : RequestParts) (fault : LaunchFault) → is_for_launches q ≡ true → fault_of (parameters q) ≡ Some fault → (outcome : Option Outcome) (action : Action) → IsCall q outcome action → ⊥
+no_launch_asked q fault path is None action call = not_both _ fault is call.1.faultless
+no_launch_asked q fault path is (Some o) action call = both (is_for_launches q) path call.0
+
+no_envelope_asked : (q : RequestParts) (at : ℕ) → is_for_launches q ≡ false → IsBadAt EnvelopeOf q.body at → (outcome : Option Outcome) (action : Action) → IsCall q outcome action → ⊥
+no_envelope_asked q at path is None action call = both (is_for_launches q) call.0 path
+no_envelope_asked q at path is (Some o) action call = is.none o call.1.spelled
 
 -- no request is refused and asked
-refused_not_asked : (terms : Terms) (q : RequestParts) (a : ResponseParts) (signed : Signed) (action : Action) → IsRefused terms q a → IsAsked terms q signed action → ⊥
-refused_not_asked terms q a signed action (inl x) asked = not_both _ x.refusal x.refused asked.routed
-refused_not_asked terms q a signed action (inr (inl x)) asked = x.known ((auth.one_answer terms q).none x.fault asked.well_signed x.is_fault)
-refused_not_asked terms q a signed action (inr (inr x)) asked = not_both _ x.fault x.is_fault asked.call.faultless
+refused_not_asked : (terms : Terms) (q : RequestParts) (a : ResponseParts) (signed : Signed) (outcome : Option Outcome) (action : Action) → IsRefused terms q a → IsAsked terms q signed outcome action → ⊥
+refused_not_asked terms q a signed outcome action (inl x) asked = not_both _ x.refusal x.refused asked.routed
+refused_not_asked terms q a signed outcome action (inr (inl x)) asked = x.known ((auth.one_answer terms q).none x.fault asked.well_signed x.is_fault)
+refused_not_asked terms q a signed outcome action (inr (inr (inl x))) asked = no_launch_asked q x.fault x.path x.is_fault outcome action asked.call
+refused_not_asked terms q a signed outcome action (inr (inr (inr x))) asked = no_envelope_asked q x.at x.path x.is_bad outcome action asked.call
+
+-- a request asks for one outcome, or for none
+outcome_once : (q : RequestParts) (o o' : Option Outcome) (a a' : Action) → IsCall q o a → IsCall q o' a' → o ≡ o'
+outcome_once q None None a a' one other = refl
+outcome_once q (Some o) (Some o') a a' one other = ap Some (document_once IsEnvelope envelope_once q.body o o' one.1.spelled other.1.spelled)
+outcome_once q None (Some o') a a' one other = absurd (both (is_for_launches q) one.0 other.0)
+outcome_once q (Some o) None a a' one other = absurd (both (is_for_launches q) other.0 one.0)
 
 abbrev first_reply : List Reply → Reply → Reply
 first_reply [] other = other
@@ -203,12 +239,15 @@ module _ (limits : Limits) (keys : List Pair) (scheme : Scheme) (n m : ℕ) (c d
       → IsAnswer (service limits keys scheme n c) q o r → IsAnswer (service limits keys scheme m d) q o' r'
       → replies_of (told_by o ++ ms) ≡ replies_of (told_by o' ++ ms') → (r ≡ r') × (replies_of ms ≡ replies_of ms')
   one_answer q r r' ms ms' None None one other same = (refused_unique _ q r r' one other, same)
-  one_answer q r r' ms ms' (Some a) (Some b) one other same = (
-    one.3 ∙ ap render (ap (λ rs. first_reply rs a.reply) same) ∙ sym other.3,
-    ap later_replies same,
-  )
-  one_answer q r r' ms ms' None (Some b) one other same = absurd (refused_not_asked _ q r other.0 _ one other.1)
-  one_answer q r r' ms ms' (Some a) None one other same = absurd (refused_not_asked _ q r' one.0 _ other one.1)
+  one_answer q r r' ms ms' (Some a) (Some b) one other same =
+      let outcomes : one.1 ≡ other.1 = outcome_once q one.1 other.1 _ _ one.2.call other.2.call in
+      let replies : a.reply ≡ b.reply = ap (λ rs. first_reply rs a.reply) same in (
+        rendered_once other.1 b.reply r r'
+            (subst (λ (o : Option Outcome). IsRendered o b.reply r) outcomes (subst (λ (x : Reply). IsRendered one.1 x r) replies one.4)) other.4,
+        ap later_replies same,
+      )
+  one_answer q r r' ms ms' None (Some b) one other same = absurd (refused_not_asked _ q r other.0 other.1 _ one other.2)
+  one_answer q r r' ms ms' (Some a) None one other same = absurd (refused_not_asked _ q r' one.0 one.1 _ other one.2)
 
   module _ (s s' : Progress) (x x' : List ℕ) (end end' : SessionEnd) (whole : Whole limits s x end) (whole' : Whole limits s' x' end') where
     same_run : (es fs : List Exchange) (p : Progress) → Runs (service limits keys scheme n c) p es s → Runs (service limits keys scheme m d) p fs s'

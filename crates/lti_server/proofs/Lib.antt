@@ -8,3 +8,4 @@ pub mod EndLemmas
 pub mod RenderLemmas
 pub mod SettingsLemmas
 pub mod CutLemmas
+pub mod BeforeLemmas

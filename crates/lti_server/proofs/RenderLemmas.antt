@@ -1,26 +1,165 @@
--- Answers to replies.
-use Rattle.std.proofs.Common.{◌≡◌, ℕ, List, Bool, Option, Some, refl, sym, ap, ◌∙◌}
-use Rattle.http_wire.specs.Message.{ResponseParts}
+-- Each reply that belongs to a call has an answer.
+use Rattle.std.proofs.Common.{◌≡◌, ◌⊎◌, ℕ, List, Bool, true, false, true≢false, inl, inr, Option, Some, None, refl, sym, ap, ◌∙◌, subst}
+use Rattle.http_wire.specs.Message.{RequestParts, ResponseParts}
 use Rattle.http_wire.specs.Response.{response_text}
-use Rattle.http_wire.specs.declared.message.Media.TheVariants.{Plain}
+use Rattle.pox_outcomes.specs.declared.outcome.Outcome.{Outcome}
+use Rattle.pox_outcomes.specs.declared.told.Told.{Told}
+use Rattle.lti_machine.specs.Belongs.{belongs}
+use Rattle.lti_machine.specs.declared.call.Action.{Action}
+use Rattle.lti_machine.specs.declared.call.Action.TheVariants as action
+use Rattle.lti_machine.specs.declared.call.Call.{Call}
 use Rattle.lti_machine.specs.declared.reply.Reply.{Reply}
-use Rattle.lti_machine.specs.declared.reply.Reply.TheVariants.{Noted, Launched, Outside, Used, WindowFull, NoMemory}
-use Rattle.lti_provider.specs.Answers.{render}
-use Rattle.lti_server.specs.Talk.{answer_bytes}
+use Rattle.lti_machine.specs.declared.reply.Reply.TheVariants.{Noted, Launched, Graded, GradeRead, Deleted, UnknownId, BadScore, Issued, AlreadyIssued, Outside, Used, WindowFull, NoMemory}
+use Rattle.pox_outcomes.specs.declared.outcome.Operation.{Operation}
+use Rattle.pox_outcomes.specs.declared.outcome.Operation.TheVariants.{ReplaceResult, ReadResult, DeleteResult}
+use Rattle.oauth_request.specs.Checked.{parameters}
+use Rattle.lti_launch.specs.Launch.{launch_of}
+use Rattle.lti_launch.specs.declared.fields.LaunchField.TheVariants.{ResourceLinkId, UserId, LisResultSourcedid, LisOutcomeServiceUrl}
+use Rattle.lti_provider.specs.Calls.{text_of}
+use Rattle.lti_provider.specs.Outcomes.{IsAskedBy, IsTold, asks}
+use Rattle.lti_provider.specs.Answers.{plain_answer, IsRendered, told_answer}
+use Rattle.lti_provider.specs.Before.{IsCall}
+use Rattle.lti_consumer.specs.Outcomes.{is_of_outcomes}
+use Rattle.lti_consumer.proofs.OutcomeLemmas.{accepted_is_told, one_telling}
+use Rattle.lti_server.specs.State.{SessionState, Owed}
+use Rattle.lti_server.specs.Exchange.{Service, Progress, ends_with}
+use Rattle.lti_server.specs.Talk.{Waits, IsOwed, HasAnswer}
 
--- the answer to a reply is plain text
-plain_render : (reply : Reply) → record { status = (render reply).status; media = Plain; body = (render reply).body } ≡ render reply
-plain_render Noted = refl
-plain_render Launched = refl
-plain_render (Outside now) = refl
-plain_render Used = refl
-plain_render (WindowFull live) = refl
-plain_render NoMemory = refl
+abbrev HasPlain : Reply → Type 0
+HasPlain reply = (answer : ResponseParts) × (plain_answer reply ≡ Some answer)
 
--- the bytes that are owed
-pub owed_text : (pending : Option Bool) (ends : Bool) (reply : Reply) (status : ℕ) (body : List ℕ) → pending ≡ Some ends → status ≡ (render reply).status → body ≡ (render reply).body
-    → answer_bytes pending reply ≡ response_text record { status = status; media = Plain; body = body } ends
-owed_text pending ends reply status body owes is_status is_body =
-    let same : record { status = status; media = Plain; body = body } ≡ render reply
-    = (λ i. record { status = is_status i; media = Plain; body = is_body i }) ∙ plain_render reply in
-    ap (λ p. answer_bytes p reply) owes ∙ ap (λ (a : ResponseParts). response_text a ends) (sym same)
+-- what belongs to a launch is said in plain text
+plain_of_launch : (link user sourced_id service : List ℕ) (reply : Reply) → belongs (action.Launch link user sourced_id service) reply ≡ true → HasPlain reply
+plain_of_launch link user sourced_id service Noted fits = (_, refl)
+plain_of_launch link user sourced_id service Launched fits = (_, refl)
+plain_of_launch link user sourced_id service (Outside now) fits = (_, refl)
+plain_of_launch link user sourced_id service Used fits = (_, refl)
+plain_of_launch link user sourced_id service (WindowFull live) fits = (_, refl)
+plain_of_launch link user sourced_id service NoMemory fits = (_, refl)
+plain_of_launch link user sourced_id service Graded fits = absurd (true≢false (sym fits))
+plain_of_launch link user sourced_id service (GradeRead score) fits = absurd (true≢false (sym fits))
+plain_of_launch link user sourced_id service Deleted fits = absurd (true≢false (sym fits))
+plain_of_launch link user sourced_id service UnknownId fits = absurd (true≢false (sym fits))
+plain_of_launch link user sourced_id service BadScore fits = absurd (true≢false (sym fits))
+plain_of_launch link user sourced_id service Issued fits = absurd (true≢false (sym fits))
+plain_of_launch link user sourced_id service AlreadyIssued fits = absurd (true≢false (sym fits))
+
+-- an outcome asks for no issue
+never_issued : (operation : Operation) (id : List ℕ) (score : Option ℕ) → (belongs (asks operation id score) Issued ≡ true → ⊥) × (belongs (asks operation id score) AlreadyIssued ≡ true → ⊥)
+never_issued ReplaceResult id score = (λ fits. true≢false (sym fits), λ fits. true≢false (sym fits))
+never_issued ReadResult id score = (λ fits. true≢false (sym fits), λ fits. true≢false (sym fits))
+never_issued DeleteResult id score = (λ fits. true≢false (sym fits), λ fits. true≢false (sym fits))
+
+-- what is told is in an envelope
+told_rendered : (o : Outcome) (asked : Action) (reply : Reply) → IsAskedBy o asked → belongs asked reply ≡ true → is_of_outcomes reply ≡ true → (answer : ResponseParts) × IsRendered (Some o) reply answer
+told_rendered o asked reply is fits of_outcomes =
+    let told = accepted_is_told o asked reply is fits of_outcomes in
+    (told_answer o told.0, inr (told.0, told.1, refl))
+
+-- what belongs to an outcome has an answer
+outcome_rendered : (o : Outcome) (asked : Action) (reply : Reply) → IsAskedBy o asked → belongs asked reply ≡ true → (answer : ResponseParts) × IsRendered (Some o) reply answer
+outcome_rendered o asked Noted is fits = (_, inl refl)
+outcome_rendered o asked Launched is fits = (_, inl refl)
+outcome_rendered o asked (Outside now) is fits = (_, inl refl)
+outcome_rendered o asked Used is fits = (_, inl refl)
+outcome_rendered o asked (WindowFull live) is fits = (_, inl refl)
+outcome_rendered o asked NoMemory is fits = (_, inl refl)
+outcome_rendered o asked Graded is fits = told_rendered o asked Graded is fits refl
+outcome_rendered o asked (GradeRead score) is fits = told_rendered o asked (GradeRead score) is fits refl
+outcome_rendered o asked Deleted is fits = told_rendered o asked Deleted is fits refl
+outcome_rendered o asked UnknownId is fits = told_rendered o asked UnknownId is fits refl
+outcome_rendered o asked BadScore is fits = told_rendered o asked BadScore is fits refl
+outcome_rendered o asked Issued is fits =
+    absurd ((never_issued o.operation o.sourced_id is.score).0 (ap (λ a. belongs a Issued) (sym is.action_is) ∙ fits))
+outcome_rendered o asked AlreadyIssued is fits =
+    absurd ((never_issued o.operation o.sourced_id is.score).1 (ap (λ a. belongs a AlreadyIssued) (sym is.action_is) ∙ fits))
+
+-- what belongs to what a request asks has an answer
+call_rendered : (q : RequestParts) (outcome : Option Outcome) (asked : Action) (reply : Reply) → IsCall q outcome asked → belongs asked reply ≡ true → (answer : ResponseParts) × IsRendered outcome reply answer
+call_rendered q None asked reply is fits =
+    let launch = launch_of (parameters q) in
+    plain_of_launch (text_of launch ResourceLinkId) (text_of launch UserId) (text_of launch LisResultSourcedid) (text_of launch LisOutcomeServiceUrl) reply
+    (ap (λ a. belongs a reply) (sym is.1.action_is) ∙ fits)
+call_rendered q (Some o) asked reply is fits = outcome_rendered o asked reply is.1.asked fits
+
+-- the answer that is owed to the call that waits
+pub answer_owed : (service : Service) (to : Progress) (rest : List ℕ) (new : SessionState) (call : Call) → Waits service to rest new call
+    → (reply : Reply) → belongs call.action reply ≡ true → HasAnswer new.pending reply
+answer_owed service to rest new call waits reply fits =
+    let answer = call_rendered waits.request waits.outcome call.action reply waits.asked.call fits in
+    let bytes = response_text answer.0 (ends_with service.limits to.count waits.request) in
+    (bytes, subst (λ p. IsOwed p reply bytes) (sym waits.pending) (answer.0, answer.1, refl))
+
+-- ---- what is told, and what is said in plain text
+
+-- a reply that is told has no plain answer
+told_not_plain : (o : Outcome) (reply : Reply) (this : Told) (answer : ResponseParts) → IsTold o reply this → plain_answer reply ≡ Some answer → ⊥
+told_not_plain o Noted this answer told plain = told
+told_not_plain o Launched this answer told plain = told
+told_not_plain o (Outside now) this answer told plain = told
+told_not_plain o Used this answer told plain = told
+told_not_plain o (WindowFull live) this answer told plain = told
+told_not_plain o NoMemory this answer told plain = told
+told_not_plain o Issued this answer told plain = told
+told_not_plain o AlreadyIssued this answer told plain = told
+told_not_plain o Graded this answer told plain = let e = plain in cc
+told_not_plain o Deleted this answer told plain = let e = plain in cc
+told_not_plain o UnknownId this answer told plain = let e = plain in cc
+told_not_plain o BadScore this answer told plain = let e = plain in cc
+told_not_plain o (GradeRead (Some score)) this answer told plain = let e = plain in cc
+told_not_plain o (GradeRead None) this answer told plain = let e = plain in cc
+
+-- a reply has one answer
+pub rendered_once : (outcome : Option Outcome) (reply : Reply) (a b : ResponseParts) → IsRendered outcome reply a → IsRendered outcome reply b → a ≡ b
+rendered_once None reply a b one other = let e = sym one ∙ other in cc
+rendered_once (Some o) reply a b (inl one) (inl other) = let e = sym one ∙ other in cc
+rendered_once (Some o) reply a b (inl one) (inr other) = absurd (told_not_plain o reply other.0 a other.1 one)
+rendered_once (Some o) reply a b (inr one) (inl other) = absurd (told_not_plain o reply one.0 b one.1 other)
+rendered_once (Some o) reply a b (inr one) (inr other) =
+    one.2 ∙ ap (told_answer o) (one_telling o reply one.0 other.0 one.1 other.1) ∙ sym other.2
+
+-- what is told is of outcomes
+not_told : (o : Outcome) (reply : Reply) (this : Told) → IsTold o reply this → is_of_outcomes reply ≡ false → ⊥
+not_told o Noted this told other = told
+not_told o Launched this told other = told
+not_told o (Outside now) this told other = told
+not_told o Used this told other = told
+not_told o (WindowFull live) this told other = told
+not_told o NoMemory this told other = told
+not_told o Issued this told other = told
+not_told o AlreadyIssued this told other = told
+not_told o Graded this told other = true≢false other
+not_told o Deleted this told other = true≢false other
+not_told o UnknownId this told other = true≢false other
+not_told o BadScore this told other = true≢false other
+not_told o (GradeRead (Some score)) this told other = true≢false other
+not_told o (GradeRead None) this told other = true≢false other
+
+plain_not_told : (reply : Reply) (answer : ResponseParts) → plain_answer reply ≡ Some answer → is_of_outcomes reply ≡ true → ⊥
+plain_not_told Noted answer plain told = true≢false (sym told)
+plain_not_told Launched answer plain told = true≢false (sym told)
+plain_not_told (Outside now) answer plain told = true≢false (sym told)
+plain_not_told Used answer plain told = true≢false (sym told)
+plain_not_told (WindowFull live) answer plain told = true≢false (sym told)
+plain_not_told NoMemory answer plain told = true≢false (sym told)
+plain_not_told Issued answer plain told = true≢false (sym told)
+plain_not_told AlreadyIssued answer plain told = true≢false (sym told)
+plain_not_told Graded answer plain told = let e = plain in cc
+plain_not_told Deleted answer plain told = let e = plain in cc
+plain_not_told UnknownId answer plain told = let e = plain in cc
+plain_not_told BadScore answer plain told = let e = plain in cc
+plain_not_told (GradeRead score) answer plain told = let e = plain in cc
+
+-- a reply that isn't told has a plain answer, and one that is told tells something
+pub plain_part : (outcome : Option Outcome) (reply : Reply) → (answer : ResponseParts) × IsRendered outcome reply answer → is_of_outcomes reply ≡ false → HasPlain reply
+plain_part None reply fits other = fits
+plain_part (Some o) reply (answer, inl plain) other = (answer, plain)
+plain_part (Some o) reply (answer, inr told) other = absurd (not_told o reply told.0 told.1 other)
+
+pub told_part : (o : Outcome) (reply : Reply) → (answer : ResponseParts) × IsRendered (Some o) reply answer → is_of_outcomes reply ≡ true → (this : Told) × IsTold o reply this
+told_part o reply (answer, inl plain) is = absurd (plain_not_told reply answer plain is)
+told_part o reply (answer, inr told) is = (told.0, told.1)
+
+-- with no outcome no reply is told
+pub none_told : (reply : Reply) → (answer : ResponseParts) × IsRendered None reply answer → HasPlain reply
+none_told reply fits = fits

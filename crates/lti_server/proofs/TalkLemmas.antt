@@ -17,10 +17,10 @@ use Rattle.lti_server.specs.declared.session_end.SessionEnd.TheVariants.{Ended, 
 use Rattle.lti_machine.specs.Rules.{decide, after, Answers}
 use Rattle.lti_machine.specs.declared.entry.Entry.{Entry}
 use Rattle.lti_server.specs.History.{Leads}
-use Rattle.lti_provider.specs.Answers.{render, wire_answer, no_memory_answer}
+use Rattle.lti_provider.specs.Answers.{wire_answer, no_memory_answer}
 use Rattle.lti_server.specs.State.{SessionState}
 use Rattle.lti_server.specs.Exchange.{Service, Member, Exchange, Progress, IsExchange, Runs, told_by, read_of, written_of, told_of, ends_with}
-use Rattle.lti_server.specs.Talk.{EndTells, Stage, answered, waiting, ended, StageTells, Talks, Spoken, Transcript, last_answer, answer_bytes, ends_then}
+use Rattle.lti_server.specs.Talk.{EndTells, Stage, answered, waiting, ended, StageTells, Talks, Spoken, Transcript, last_answer, IsOwed, ends_then}
 
 abbrev progress : SessionState → Progress
 progress s = record { count = s.count; over = s.over }
@@ -168,9 +168,12 @@ pub Spoken-caller : (limits : Limits) (n m : ℕ) (keys : List Pair) (scheme : S
 Spoken-caller limits n m keys scheme clock a b old new told stage is spoken =
     subst (λ (k : ℕ). Spoken record { limits = limits; caller = k; keys = keys; scheme = scheme; clock = clock } a b old new told stage) is spoken
 
--- the reply to the call that waits
-module _ (t : Service) (b c : Traffic) (old mid new : SessionState) (r v w : List ℕ) (told : List Member) (none fault : Fault) (call : Call) (reply : Reply)
-    (talks : Talks t b old mid r v told none (waiting call)) where
+-- the reply to the call that waits, and the bytes of its answer
+module _ (t : Service) (b c : Traffic) (old mid new : SessionState) (r v w whole : List ℕ) (told : List Member) (none fault : Fault) (call : Call) (reply : Reply)
+    (talks : Talks t b old mid r v told none (waiting call)) (is_owed : IsOwed mid.pending reply whole) where
+  abbrev owed : IsOwed (Some (record { ends = ends_with t.limits talks.to.count talks.stage_is.2.request; outcome = talks.stage_is.2.outcome })) reply whole
+  owed = subst (λ p. IsOwed p reply whole) talks.stage_is.2.pending is_owed
+
   abbrev before_it : SessionState
   before_it = record { kept = talks.stage_is.2.spelled ++ mid.kept; caller = mid.caller; count = talks.to.count; over = talks.to.over; pending = None; ended = false }
 
@@ -184,7 +187,7 @@ module _ (t : Service) (b c : Traffic) (old mid new : SessionState) (r v w : Lis
         spelled = waits.spelled;
         request = waits.request;
         told = Some member;
-        answer = render reply;
+        answer = owed.0;
         ends = ends_with t.limits talks.to.count waits.request;
       }
 
@@ -202,7 +205,7 @@ module _ (t : Service) (b c : Traffic) (old mid new : SessionState) (r v w : Lis
   is_exchange : IsExchange t talks.to.count exchange
   is_exchange =
       let waits = talks.stage_is.2 in
-      record { spelling = waits.spelling; answer = (waits.signed, waits.asked, waits.call_is, refl); ends = refl }
+      record { spelling = waits.spelling; answer = (waits.signed, waits.outcome, waits.asked, waits.call_is, owed.1); ends = refl }
 
   Talks-tell : (stage : Stage)
       → StageTells t c record { count = talks.to.count + 1; over = exchange.ends } mid.kept new (response_text exchange.answer exchange.ends) w fault stage
@@ -214,13 +217,13 @@ module _ (t : Service) (b c : Traffic) (old mid new : SessionState) (r v w : Lis
       (Talks-then t b c old before_it new r [] v w told (member ∷ []) none fault stage until_it one)
 
   -- it was written, and the session goes on
-  pub told_ok : fault ≡ no_fault → w ≡ answer_bytes mid.pending reply → new ≡ record mid { pending = None; over = ends_then mid.pending }
+  pub told_ok : fault ≡ no_fault → w ≡ whole → new ≡ record mid { pending = None; over = ends_then mid.pending }
       → Talks t c old new r (v ++ w) (told ++ member ∷ []) fault answered
   told_ok fine all is =
       let waits = talks.stage_is.2 in
       Talks-tell answered (
         fine,
-        all ∙ ap (λ p. answer_bytes p reply) waits.pending,
+        all ∙ owed.2,
         record {
           kept = sym (ap (λ (s : SessionState). s.kept) is);
           count = ap (λ (s : SessionState). s.count) is ∙ waits.count;
@@ -231,10 +234,10 @@ module _ (t : Service) (b c : Traffic) (old mid new : SessionState) (r v w : Lis
       )
 
   -- some of it was not written
-  pub told_cut : fault ≡ write_fault → IsProperPrefix w (answer_bytes mid.pending reply) → new.ended ≡ true
+  pub told_cut : fault ≡ write_fault → IsProperPrefix w whole → new.ended ≡ true
       → Talks t c old new r (v ++ w) (told ++ member ∷ []) fault (ended WriteFault)
   told_cut bad cut is =
-      Talks-tell (ended WriteFault) ((bad, inl (subst (λ p. IsProperPrefix w (answer_bytes p reply)) talks.stage_is.2.pending cut)), is)
+      Talks-tell (ended WriteFault) ((bad, inl (subst (λ (x : List ℕ). IsProperPrefix w x) owed.2 cut)), is)
 
 -- one call more
 pub Leads-push : (window : ℕ) (call : Call) (reply : Reply) (ms : List Member) (from mid : List Entry)

@@ -12,7 +12,8 @@ use Rattle.oauth_request.specs.Checked as checked
 use Rattle.oauth_request.specs.declared.checking.Signed.{Signed}
 use Rattle.lti_machine.specs.declared.call.Call.{Call}
 use Rattle.lti_machine.specs.declared.reply.Reply.{Reply}
-use Rattle.lti_provider.specs.Answers.{render}
+use Rattle.pox_outcomes.specs.declared.outcome.Outcome.{Outcome}
+use Rattle.lti_provider.specs.Answers.{IsRendered}
 use Rattle.lti_provider.specs.Before.{IsRefused, IsAsked}
 
 -- what a connection is served under: the limits, the number of its caller, the keys with their secrets, the scheme by
@@ -54,7 +55,8 @@ pub record IsCallOf (service : Service) (signed : Signed) (call : Call) : Type 0
 abbrev pub IsAnswer : Service → RequestParts → Option Member → ResponseParts → Type 0
 IsAnswer service q None answer = IsRefused (terms_of service) q answer
 IsAnswer service q (Some member) answer =
-    (signed : Signed) × IsAsked (terms_of service) q signed member.call.action × IsCallOf service signed member.call × (answer ≡ render member.reply)
+    (signed : Signed) × (outcome : Option Outcome) × IsAsked (terms_of service) q signed outcome member.call.action
+    × IsCallOf service signed member.call × IsRendered outcome member.reply answer
 
 -- the connection ends with the answer to this request, where `count` came before it
 abbrev pub ends_with : Limits → ℕ → RequestParts → Bool

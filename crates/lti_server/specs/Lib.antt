@@ -8,6 +8,7 @@ pub mod SoFar
 pub mod Status
 pub mod Ending
 pub mod State
+pub mod Room
 pub mod Exchange
 pub mod BeforeView
 pub mod Refusal

@@ -11,9 +11,10 @@ use Rattle.oauth_request.specs.declared.checking.Signed.{Signed}
 use Rattle.lti_machine.specs.Sound.{IsSound}
 use Rattle.lti_machine.specs.declared.call.Call.{Call}
 use Rattle.lti_machine.specs.declared.reply.Reply.{Reply}
-use Rattle.lti_provider.specs.Answers.{render, wire_answer, no_memory_answer}
+use Rattle.pox_outcomes.specs.declared.outcome.Outcome.{Outcome}
+use Rattle.lti_provider.specs.Answers.{IsRendered, wire_answer, no_memory_answer}
 use Rattle.lti_provider.specs.Before.{IsAsked}
-use Rattle.lti_server.specs.State.{SessionState}
+use Rattle.lti_server.specs.State.{SessionState, Owed}
 use Rattle.lti_server.specs.Exchange.{Service, terms_of, Member, Exchange, Progress, IsCallOf, ends_with, Runs, read_of, written_of, told_of}
 use Rattle.lti_server.specs.declared.asks.Ask.{Ask}
 use Rattle.lti_server.specs.declared.asks.Ask.TheVariants.{Call as Called, End}
@@ -64,10 +65,11 @@ pub record Waits (service : Service) (to : Progress) (rest : List ℕ) (new : Se
   pub spelling : Spelling service.limits spelled request
   pub bytes : rest ≡ spelled ++ new.kept
   pub signed : Signed
-  pub asked : IsAsked (terms_of service) request signed call.action
+  pub outcome : Option Outcome
+  pub asked : IsAsked (terms_of service) request signed outcome call.action
   pub call_is : IsCallOf service signed call
   pub sound : IsSound call
-  pub pending : new.pending ≡ Some (ends_with service.limits to.count request)
+  pub pending : new.pending ≡ Some (record { ends = ends_with service.limits to.count request; outcome = outcome })
   pub goes_on : to.over ≡ false
   pub below : to.count < service.limits.requests
   pub count : new.count ≡ to.count + 1
@@ -132,12 +134,17 @@ OnAnswered Answered P = P
 OnAnswered (Asked call) P = ⊤
 OnAnswered (Over end) P = ⊤
 
--- what is written for a reply to the call that waits; `pending` says whether the connection ends with it
-abbrev pub answer_bytes : Option Bool → Reply → List ℕ
-answer_bytes None reply = []
-answer_bytes (Some ends) reply = response_text (render reply) ends
+-- the bytes answer the call that waits with this reply
+abbrev pub IsOwed : Option Owed → Reply → List ℕ → Type 0
+IsOwed None reply bytes = ⊥
+IsOwed (Some owed) reply bytes =
+    (answer : ResponseParts) × IsRendered owed.outcome reply answer × (bytes ≡ response_text answer owed.ends)
+
+-- the reply has an answer to the call that waits, as every reply has that belongs to it
+abbrev pub HasAnswer : Option Owed → Reply → Type 0
+HasAnswer pending reply = (bytes : List ℕ) × IsOwed pending reply bytes
 
 -- whether the connection ends with the answer that waits
-abbrev pub ends_then : Option Bool → Bool
+abbrev pub ends_then : Option Owed → Bool
 ends_then None = false
-ends_then (Some ends) = ends
+ends_then (Some owed) = owed.ends

@@ -9,7 +9,7 @@ use Rattle.lti_machine.specs.declared.call.Call.{Call}
 use Rattle.lti_machine.specs.declared.call.Action.TheVariants.{Note}
 use Rattle.lti_machine.specs.declared.entry.Entry.{Entry}
 use Rattle.lti_machine.specs.declared.reply.Reply.{Reply}
-use Rattle.lti_machine.specs.declared.reply.Reply.TheVariants.{Noted, Launched, Outside, Used, WindowFull, NoMemory}
+use Rattle.lti_machine.specs.declared.reply.Reply.TheVariants.{Outside, Used, WindowFull, NoMemory}
 use Rattle.oauth_request.specs.declared.checking.Signed.{Signed}
 use Rattle.lti_server.specs.Command.{CheckCommand}
 use Rattle.lti_server.specs.Checked.{HasFault, IsWellSigned}
@@ -41,14 +41,14 @@ AreVerdicts command limits before (l ∷ ls) [] later = ⊥
 AreVerdicts command limits before (l ∷ ls) (v ∷ vs) later =
     (length l ≤ limits.body) × (next : List Entry) × Judges command limits before l v next × AreVerdicts command limits next ls vs later
 
--- what is written for an answer of the machine; want of memory ends the run and has no line
+-- what is written for an answer of the machine, which notes a line or has one of these causes not to; want of memory ends
+-- the run and has no line
 abbrev pub reply_line : Reply → List ℕ
-reply_line Noted = codes "accepted" ++ 10 ∷ []
-reply_line Launched = codes "accepted" ++ 10 ∷ []
 reply_line (Outside now) = codes "outside " ++ decimal now ++ 10 ∷ []
 reply_line Used = codes "used" ++ 10 ∷ []
 reply_line (WindowFull live) = codes "window full" ++ 10 ∷ []
 reply_line NoMemory = []
+reply_line _ = codes "accepted" ++ 10 ∷ []
 
 -- what is written for a verdict
 abbrev pub verdict_line : Verdict → List ℕ

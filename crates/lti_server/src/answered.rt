@@ -94,8 +94,10 @@ impl Answered {
         if line.len() > checker.limits.body as usize {
             return Err(Stop::Refused);
         }
-        let verdict = self.verdict(alloc, checker, line)?;
-        push_verdict(&mut self.pending, alloc, verdict)?;
+        match self.verdict(alloc, checker, line) {
+            Ok(verdict) => push_verdict(&mut self.pending, alloc, &verdict)?,
+            Err(NoMemory) => return Err(Stop::NoMemory),
+        }
         self.count += 1;
         Ok(())
     }

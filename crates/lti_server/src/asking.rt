@@ -6,11 +6,11 @@ ghost use Rattle.lti_server.specs.Exchange as exchange;
 use crate::asks::{Ask, Next};
 use crate::before::{Before, judge};
 use crate::pending::{Pending, reserve_answer};
-use crate::refusing::refuse;
 use crate::rendering::render_into;
 use crate::session_end::SessionEnd;
 use crate::settings::Settings;
-use http_wire::{Media, Request, Wire, WireFault, write_answer, write_response};
+use crate::wire_faults::refuse;
+use http_wire::{Request, Wire, WireFault, write_answer, write_response};
 use lti_machine::{Action, Call, Reply};
 use lti_outside::{Clock, Limits, Link, WriteFault};
 use oauth_request::Signed;
@@ -41,7 +41,7 @@ impl Model for Session {
       caller = s.caller;
       count = s.count;
       over = s.over;
-      pending = option_map (λ p. p.ends) s.pending;
+      pending = option_map (λ p. record { ends = p.ends; outcome = p.outcome }) s.pending;
       ended = s.ended;
     } };
 
@@ -79,7 +79,7 @@ impl Session {
     ghost use Rattle.lti_outside.specs.Traffic.{Moves, Fault, no_fault, GivesFront};
     ghost use Rattle.http_wire.specs.Message.{parts_of};
     ghost use Rattle.http_wire.specs.Spelling.{Spelling};
-    ghost use Rattle.lti_server.specs.Talk.{Talks, Spoken, stage_of, next_stage, OnAnswered, answer_bytes, ends_then};
+    ghost use Rattle.lti_server.specs.Talk.{Talks, Spoken, stage_of, next_stage, OnAnswered, IsOwed, HasAnswer, ends_then};
 
     /// A session of a connection from which nothing was taken. `caller` is the number that its calls have.
     pub fn new(caller: u32) -> Session
@@ -148,7 +148,13 @@ impl Session {
                     }
                 }
             }
-            Ok(Before::Asked { signed, action }) => match reserve_answer(alloc, ends) {
+            Ok(
+                Before::Asked {
+                    signed,
+                    outcome,
+                    action,
+                },
+            ) => match reserve_answer(alloc, ends, outcome) {
                 Ok(pending) => {
                     self.count += 1;
                     self.pending = Some(pending);
@@ -242,23 +248,27 @@ impl Session {
         }
     }
 
-    /// Writes the answer to the call that waits. At an `Err` a proper front of it was written, and the session has ended.
-    /// It takes no memory.
+    /// Writes the answer to the call that waits; the reply belongs to that call, and so has an answer. At an `Err` a proper
+    /// front of it was written, and the session has ended. It takes no memory.
     pub fn tell<L: Link>(&mut self, link: &mut L, reply: Reply) -> Result<(), WriteFault>
-        requires waits { IsSome self.old.pending }
+        requires fits { HasAnswer self.old.pending reply }
         requires lives { self.old.ended ≡ false }
-        ensures told { OnOk result (Moves (L.traffic link.old) (L.traffic link.new) [] (answer_bytes self.old.pending reply) no_fault) }
-        ensures cut { OnErr result (GivesFront (L.traffic link.old) (L.traffic link.new) (answer_bytes self.old.pending reply)) }
+        ensures told { OnOk result ((answer : List ℕ) × IsOwed self.old.pending reply answer × Moves (L.traffic link.old) (L.traffic link.new) [] answer no_fault) }
+        ensures cut { OnErr result ((answer : List ℕ) × IsOwed self.old.pending reply answer × GivesFront (L.traffic link.old) (L.traffic link.new) answer) }
         ensures ok { OnOk result (self.new ≡ record self.old { pending = None; over = ends_then self.old.pending }) }
         ensures err { OnErr result (self.new.ended ≡ true) }
     {
         let Some(pending) = self.pending.take() else {
             unreachable!()
         };
-        let Pending { ends, mut body } = pending;
-        let status = render_into(&mut body, reply);
+        let Pending {
+            ends,
+            outcome,
+            mut body,
+        } = pending;
+        let (status, media) = render_into(&mut body, &outcome, reply);
         self.over = ends;
-        let told = write_answer(link, status, Media::Plain, body.get(), ends);
+        let told = write_answer(link, status, media, body.get(), ends);
         self.ended = told.is_err();
         told
     }

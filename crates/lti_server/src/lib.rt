@@ -7,8 +7,10 @@
 //! - `check`: the command over a link; `answered`: the lines in whatever pieces; `checker`: which kind of request a line is;
 //!   `verdict`: what is written;
 //! - `answering`: the command `answer`; `settings`, `settings_source`: what it is served with; `sessions`, `asking`: a whole
-//!   connection, and one call of it; `before`: what is said of a request before the machine is asked, and `refusals`: its answers; `rendering`: the answer
-//!   to a reply; `refusing`: the answer to bytes that spell no request; `laws`: how bytes are cut doesn't matter.
+//!   connection, and one call of it;
+//! - `before`: what is said of a request before the machine is asked, by its route (`routes`), and `refusals`: its answers;
+//!   `rendering`: the answer to a reply, with room from `pending`; `wire_faults`: the answer to bytes that spell no request;
+//!   `laws`: how bytes are cut doesn't matter.
 #![tactic(auto)]
 
 #[cfg(test)]
@@ -22,10 +24,12 @@ mod check;
 mod checker;
 mod command;
 mod laws;
+#[cfg(test)]
+mod outcome_tests;
 mod pending;
 mod refusals;
-mod refusing;
 mod rendering;
+mod routes;
 mod session_end;
 mod sessions;
 mod settings;
@@ -35,6 +39,7 @@ mod stop;
 mod tests;
 mod top;
 mod verdict;
+mod wire_faults;
 
 pub use asking::Session;
 pub use asks::Ask;

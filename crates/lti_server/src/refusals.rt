@@ -1,9 +1,8 @@
 // The answers to requests that are refused before the machine is asked.
-ghost use Rattle.std.specs.Prelude.{◌≡◌, ◌++◌, None, Some, IfOk, OnOk, MatchOption, string_bytes};
+ghost use Rattle.std.specs.Prelude.{◌≡◌, ◌++◌, IfOk, OnOk, string_bytes};
 ghost use Rattle.http_wire.specs.Message.{parts_of, response_parts_of};
 ghost use Rattle.http_wire.specs.Response.{HasReason};
-ghost use Rattle.lti_provider.specs.Answers.{plain, answer_to, auth_answer, auth_text, launch_answer, launch_text};
-ghost use Rattle.lti_provider.specs.Before.{route_refusal};
+ghost use Rattle.lti_provider.specs.Answers.{plain, answer_to, auth_answer, auth_text, launch_answer, launch_text, envelope_answer};
 
 use http_wire::{Media, Request, Response};
 use lti_launch::{LaunchFault, LaunchField};
@@ -11,23 +10,6 @@ use lti_outside::{Bytes, NoMemory};
 use oauth_request::AuthFault;
 use std::alloc::{AllocError, Global};
 use std::fmt::Write;
-
-/// The status and the text of the answer to a request of another route than that of launches, or none.
-pub fn route_refusal_of(request: &Request) -> Option<(u16, &'static str)>
-    ensures { MatchOption result (route_refusal (parts_of request.now) ≡ None)
-        (λ refusal. route_refusal (parts_of request.now) ≡ Some (plain refusal.0 refusal.1.now)) }
-{
-    if request.path.get() != "/lti/launch" {
-        return Some((404, "not found"));
-    }
-    if request.method.get() != "POST" {
-        return Some((405, "method not allowed"));
-    }
-    if request.encoded || request.media.get() != "application/x-www-form-urlencoded" {
-        return Some((415, "unsupported media type"));
-    }
-    None
-}
 
 // An answer of plain text.
 fn plain_response(alloc: Global, status: u16, text: &str) -> Result<Response, NoMemory>
@@ -109,7 +91,17 @@ pub fn launch_response(alloc: Global, fault: LaunchFault) -> Result<Response, No
     Ok(response)
 }
 
-/// The answer to a request of another route.
+/// The answer to a well signed request whose body is no envelope; the first `at` bytes begin one.
+pub fn envelope_response(alloc: Global, at: u64) -> Result<Response, NoMemory>
+    ensures answer { IfOk result (λ response. response_parts_of response ≡ envelope_answer at) }
+    ensures reason { IfOk result (λ response. HasReason response.status) }
+{
+    let mut text = String::new(alloc);
+    write!(text, "bad envelope at {at}")?;
+    plain_response(alloc, 400, text.as_str())
+}
+
+/// The answer to a request that no route takes.
 pub fn route_response(
     alloc: Global,
     request: &Request,

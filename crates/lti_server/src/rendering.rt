@@ -1,13 +1,20 @@
 // The answers to the machine's replies.
-ghost use Rattle.std.specs.Prelude.{◌≡◌, ◌≤◌, ◌+◌, ◌++◌, ◌∷◌, [], length, decimal};
+ghost use Rattle.std.specs.Prelude.{◌≡◌, ◌≤◌, ◌+◌, ◌++◌, ◌∷◌, [], length, decimal, Some};
+ghost use Rattle.http_wire.specs.Message.{ResponseParts};
 ghost use Rattle.http_wire.specs.Response.{HasReason};
-ghost use Rattle.lti_provider.specs.Answers.{render};
+ghost use Rattle.http_wire.specs.declared.message.Media.TheVariants.{Plain};
+ghost use Rattle.lti_consumer.specs.Outcomes as outcomes;
+ghost use Rattle.lti_provider.specs.Answers.{plain_answer, IsRendered};
+ghost use Rattle.lti_server.specs.Room.{HasRoom};
 
+use http_wire::Media;
 use itoa::Buffer;
+use lti_consumer::outcome_answer;
 use lti_machine::Reply;
 use lti_outside::Bytes;
+use pox_outcomes::Outcome;
 
-/// How many bytes the body of an answer to a reply has at most.
+/// How many bytes the body of an answer in plain text has at most.
 pub const LONGEST_BODY: usize = 64;
 
 // Appends bytes for which there is room.
@@ -32,13 +39,12 @@ fn put_number(body: &mut Bytes, text: &[u8], number: u64)
     put(body, b"\n");
 }
 
-/// Puts the body of the answer to a reply into an empty one with room, without asking for memory, and answers the status.
-/// The answer is plain text.
-pub fn render_into(body: &mut Bytes, reply: Reply) -> u16
+// Puts the body of the answer in plain text to a reply into an empty one with room, and answers the status.
+fn render_plain(body: &mut Bytes, reply: Reply) -> u16
+    requires plain { (answer : ResponseParts) × (plain_answer reply ≡ Some answer) }
     requires empty { body.old.list ≡ [] }
     requires room { 64 ≤ body.old.room }
-    ensures status { result ≡ (render reply).status }
-    ensures body { body.new.list ≡ (render reply).body }
+    ensures answer { plain_answer reply ≡ Some (record { status = result; media = Plain; body = body.new.list }) }
     ensures reason { HasReason result }
 {
     match reply {
@@ -65,6 +71,48 @@ pub fn render_into(body: &mut Bytes, reply: Reply) -> u16
         Reply::NoMemory => {
             put(body, b"want of memory\n");
             503
+        }
+        Reply::Graded
+        | Reply::GradeRead { .. }
+        | Reply::Deleted
+        | Reply::UnknownId
+        | Reply::BadScore
+        | Reply::Issued
+        | Reply::AlreadyIssued => unreachable!(),
+    }
+}
+
+// Whether the reply is told in an envelope.
+fn is_of_outcomes(reply: &Reply) -> bool
+    ensures { result ≡ outcomes.is_of_outcomes reply.now }
+{
+    match reply {
+        Reply::Graded
+        | Reply::GradeRead { .. }
+        | Reply::Deleted
+        | Reply::UnknownId
+        | Reply::BadScore => true,
+        _ => false,
+    }
+}
+
+/// Puts the body of the answer to a reply into an empty one with room, without asking for memory, and answers the status
+/// and the media type. The reply to an outcome that was accepted is told in an envelope, and every other one in plain text.
+pub fn render_into(body: &mut Bytes, outcome: &Option<Outcome>, reply: Reply) -> (u16, Media)
+    requires fits { (answer : ResponseParts) × IsRendered outcome.now reply answer }
+    requires empty { body.old.list ≡ [] }
+    requires room { HasRoom outcome.now body.old.room }
+    ensures answer { IsRendered outcome.now reply (record { status = result.0; media = result.1; body = body.new.list }) }
+    ensures reason { HasReason result.0 }
+{
+    match outcome {
+        Some(outcome) if is_of_outcomes(&reply) => {
+            outcome_answer(outcome, reply, body);
+            (200, Media::Xml)
+        }
+        _ => {
+            let status = render_plain(body, reply);
+            (status, Media::Plain)
         }
     }
 }

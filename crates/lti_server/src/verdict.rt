@@ -18,23 +18,23 @@ pub enum Verdict {
 }
 
 // Appends what is written for an answer of the machine.
-fn push_reply(out: &mut String, alloc: Global, reply: Reply) -> Result<(), NoMemory>
-    ensures ok { OnOk result (string_bytes out.new ≡ string_bytes out.old ++ reply_line reply) }
+fn push_reply(out: &mut String, alloc: Global, reply: &Reply) -> Result<(), NoMemory>
+    ensures ok { OnOk result (string_bytes out.new ≡ string_bytes out.old ++ reply_line reply.now) }
     ensures err { OnErr result (string_bytes out.new ≡ string_bytes out.old) }
 {
     match reply {
-        Reply::Noted | Reply::Launched => out.push_str("accepted\n")?,
         Reply::Outside { now } => out.push_str(format!(in alloc; "outside {now}\n")?.as_str())?,
         Reply::Used => out.push_str("used\n")?,
         Reply::WindowFull { .. } => out.push_str("window full\n")?,
         Reply::NoMemory => return Err(NoMemory),
+        _ => out.push_str("accepted\n")?,
     }
     Ok(())
 }
 
 /// Appends the line that is written for a verdict. On `NoMemory` nothing was appended.
-pub fn push_verdict(out: &mut String, alloc: Global, verdict: Verdict) -> Result<(), NoMemory>
-    ensures ok { OnOk result (string_bytes out.new ≡ string_bytes out.old ++ verdict_line verdict) }
+pub fn push_verdict(out: &mut String, alloc: Global, verdict: &Verdict) -> Result<(), NoMemory>
+    ensures ok { OnOk result (string_bytes out.new ≡ string_bytes out.old ++ verdict_line verdict.now) }
     ensures err { OnErr result (string_bytes out.new ≡ string_bytes out.old) }
 {
     match verdict {

@@ -4,8 +4,9 @@ use Rattle.lti_outside.proofs.TrafficLemmas.{Moves-same, Moves-gives}
 use Rattle.lti_server.specs.State.{SessionState}
 use Rattle.lti_server.specs.Exchange.{Member}
 use Rattle.lti_server.specs.History.{Leads}
-use Rattle.lti_server.specs.Talk.{waiting, ended, answer_bytes}
+use Rattle.lti_server.specs.Talk.{waiting, ended}
 use Rattle.lti_server.proofs.TalkLemmas.{Talks-none, Spoken-then, Spoken-caller, Talks-whole, Runs-count, told_ok, told_cut, Leads-push}
+use Rattle.lti_server.proofs.RenderLemmas.{answer_owed}
 use Rattle.lti_server.proofs.sessions.session.Goals as goal
 
 pub calls-init : goal.calls-init
@@ -45,7 +46,7 @@ returns-in-Err g c =
     let before = c.calls.invariant.talk in
     let now = Spoken-caller _ _ _ _ _ _ _ _ _ _ _ _ c.calls.invariant.caller c.in-Call.ensures.talk in
     let asked = Spoken-then _ _ _ _ _ _ _ before.0 [] (waiting c.in-Call.call) before.1 now in
-    let cut = c.in-Err.ensures.cut in
+    let cut = c.in-Err.ensures.cut.2 in
     let led = subst (λ (ms : List Member). Leads c.args.limits.now.window c.args.solo.now ms c.calls.solo) (sym (append-nil before.0)) before.2 in
     record {
       read = asked.read;
@@ -54,7 +55,7 @@ returns-in-Err g c =
       fault = write_fault;
       moves = Moves-gives (subst (λ (f : Fault). Moves (g.L.Outside.traffic c.args.link.now) (g.L.Outside.traffic c.ask.new.link) asked.read asked.written f) asked.talks.stage_is.0 asked.moves) cut.moves;
       answered = rw c.answer-reply.ensures.kept (Leads-push _ _ _ _ _ _ led c.answer-reply.ensures.decided);
-      transcript = Talks-whole _ _ _ _ _ _ _ _ _ (told_cut _ _ _ _ _ c.tell.new.self _ _ _ _ _ _ _ _ asked.talks refl cut.proper c.in-Err.ensures.err);
+      transcript = Talks-whole _ _ _ _ _ _ _ _ _ (told_cut _ _ _ _ _ c.tell.new.self _ _ _ _ _ _ _ _ _ asked.talks c.in-Err.ensures.cut.1 refl cut.proper c.in-Err.ensures.err);
     }
 
 pub calls-smaller : goal.calls-smaller
@@ -75,12 +76,17 @@ calls-preserved g c =
         (before.0 ++ []) ++ record { call = c.in-Call.call; reply = c.answer-reply.result } ∷ [],
         record {
           read = asked.read;
-          written = asked.written ++ answer_bytes c.ask.new.self.pending c.answer-reply.result;
+          written = asked.written ++ c.in-Ok.ensures.told.0;
           fault = no_fault;
-          moves = Moves-gives (subst (λ (f : Fault). Moves (g.L.Outside.traffic c.args.link.now) (g.L.Outside.traffic c.ask.new.link) asked.read asked.written f) asked.talks.stage_is.0 asked.moves) c.in-Ok.ensures.told;
-          talks = told_ok _ _ _ _ _ _ _ _ _ _ _ _ _ _ asked.talks refl refl c.in-Ok.ensures.ok;
+          moves = Moves-gives (subst (λ (f : Fault). Moves (g.L.Outside.traffic c.args.link.now) (g.L.Outside.traffic c.ask.new.link) asked.read asked.written f) asked.talks.stage_is.0 asked.moves) c.in-Ok.ensures.told.2;
+          talks = told_ok _ _ _ _ _ _ _ _ _ _ _ _ _ _ _ asked.talks c.in-Ok.ensures.told.1 refl refl c.in-Ok.ensures.ok;
         },
         rw c.answer-reply.ensures.kept (Leads-push _ _ _ _ _ _ led c.answer-reply.ensures.decided),
       );
       caller = ap (λ (s : SessionState). s.caller) c.in-Ok.ensures.ok ∙ c.ask.ensures.caller ∙ c.calls.invariant.caller;
     }
+
+pub tell-requires-clause-fits : goal.tell-requires-clause-fits
+tell-requires-clause-fits g c =
+    let waits = c.in-Call.ensures.talk.talks.stage_is.2 in
+    answer_owed _ _ _ _ _ waits c.answer-reply.result c.answer-reply.ensures.belongs

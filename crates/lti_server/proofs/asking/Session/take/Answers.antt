@@ -55,7 +55,7 @@ returns-in-Ok-reserve_answer-clause-talk g c =
     let lives = ap (λ (s : SessionState). s.ended) c.self.view_is ∙ c.requires.lives in
     let signed = c.in-Ok-Asked.signed in
     let before = rw c.in-Ok-Asked.field-0-is at c.in-Ok-Asked.ensures in
-    let takes = before.1 in
+    let takes = before.2 in
     rw (sym c.self.view_is, c.call_of.ensures) (
       [],
       no_fault,
@@ -70,10 +70,11 @@ returns-in-Ok-reserve_answer-clause-talk g c =
               spelling = spells;
               bytes = append-nil _;
               signed = signed;
+              outcome = c.in-Ok-Asked.outcome;
               asked = before.0;
               call_is = record { caller = refl; moment = c.now.ensures.told; key = refl; timestamp = refl; nonce = refl };
-              sound = record { moment = c.now.ensures.bound; key = takes.key; timestamp = takes.timestamp; nonce = takes.nonce };
-              pending = ap Some (c.in-Ok-reserve_answer.ensures ∙ c.ends_with-ends.ensures.ends);
+              sound = record { moment = c.now.ensures.bound; key = takes.key; stamp = inl (record { signed = before.1; timestamp = takes.timestamp; nonce = takes.nonce }) };
+              pending = λ i. Some (record { ends = (c.in-Ok-reserve_answer.ensures.ends ∙ c.ends_with-ends.ensures.ends) i; outcome = c.in-Ok-reserve_answer.ensures.outcome i });
               goes_on = over;
               below = below;
               count = refl;
