@@ -143,6 +143,10 @@ fn is_row(book: &Gradebook, place: usize, key: &str, id: &str, standing: &str) -
     }
 }
 
+fn has_row(book: &Gradebook, place: usize) -> bool {
+    book.row(place).is_some()
+}
+
 #[test]
 fn rows_stand_in_order_of_first_issue(rt: HostRuntime) -> Result<(), Fail> {
     let alloc = rt.alloc();
@@ -152,16 +156,23 @@ fn rows_stand_in_order_of_first_issue(rt: HostRuntime) -> Result<(), Fail> {
     assert!(rt; is_row(&book, 0, "12345", "2", "empty"));
     assert!(rt; is_row(&book, 1, "12345", "1", "0.5"));
     assert!(rt; is_row(&book, 2, "other", "1", "empty"));
-    assert!(rt; book.row(3).is_none());
+    assert!(rt; !has_row(&book, 3));
     Ok(())
 }
 
-// The sourcedId of a placement, or nothing.
-fn sourced_id<'a>(book: &'a Gradebook, key: &str, link: &str, user: &str) -> &'a str {
+// Whether the grade goes to this sourcedId of the one service.
+fn goes_to(book: &Gradebook, key: &str, link: &str, user: &str, sourced_id: &str) -> bool {
     match book.placement(key, link, user) {
-        Some(placement) => placement.sourced_id,
-        None => "",
+        Some(placement) => {
+            placement.sourced_id == sourced_id
+                && placement.service == "https://lms.example/lti/outcomes"
+        }
+        None => false,
     }
+}
+
+fn has_placement(book: &Gradebook, key: &str, link: &str, user: &str) -> bool {
+    book.placement(key, link, user).is_some()
 }
 
 fn make_launch(
@@ -194,25 +205,12 @@ fn a_grade_goes_where_the_last_launch_says(rt: HostRuntime) -> Result<(), Fail> 
     let alloc = rt.alloc();
     let mut book = Gradebook::new(alloc)?;
     launch_four_times(&mut book, alloc)?;
-    assert_eq!(rt; sourced_id(&book, "12345", "1", "2"), "last");
-    assert_eq!(rt; sourced_id(&book, "12345", "2", "1"), "swapped");
-    assert_eq!(rt; sourced_id(&book, "other", "1", "2"), "other");
-    assert_eq!(rt; sourced_id(&book, "12345", "1", "3"), "");
-    assert_eq!(rt; sourced_id(&book, "12345", "3", "2"), "");
-    assert_eq!(rt; sourced_id(&book, "other", "2", "1"), "");
-    Ok(())
-}
-
-#[test]
-fn a_placement_has_the_service_of_its_launch(rt: HostRuntime) -> Result<(), Fail> {
-    let alloc = rt.alloc();
-    let mut book = Gradebook::new(alloc)?;
-    make_launch(&mut book, alloc, "12345", "1", "2", "3124567")?;
-    let Some(placement) = book.placement("12345", "1", "2") else {
-        return Err("no placement".into());
-    };
-    assert_eq!(rt; placement.sourced_id, "3124567");
-    assert_eq!(rt; placement.service, "https://lms.example/lti/outcomes");
+    assert!(rt; goes_to(&book, "12345", "1", "2", "last"));
+    assert!(rt; goes_to(&book, "12345", "2", "1", "swapped"));
+    assert!(rt; goes_to(&book, "other", "1", "2", "other"));
+    assert!(rt; !has_placement(&book, "12345", "1", "3"));
+    assert!(rt; !has_placement(&book, "12345", "3", "2"));
+    assert!(rt; !has_placement(&book, "other", "2", "1"));
     Ok(())
 }
 
@@ -333,7 +331,7 @@ fn what_is_prepared_is_not_told(rt: HostRuntime) -> Result<(), Fail> {
     book.prepare(&entry(alloc, "12345", launched)?)?;
     assert_eq!(rt; book.rows(), 0);
     assert_eq!(rt; book.grade("12345", "1"), Standing::Unknown);
-    assert!(rt; book.placement("12345", "1", "2").is_none());
+    assert!(rt; !has_placement(&book, "12345", "1", "2"));
     unknown_is_not_issued();
     Ok(())
 }
