@@ -122,18 +122,29 @@ fn grade_one_of_three(book: &mut Gradebook, alloc: Global) -> Result<(), Fail> {
     make_change(book, alloc, "12345", "3", Change::Grade("0.5"))
 }
 
+fn expect_standings(book: &Gradebook) -> Result<(), Fail> {
+    let cases = [
+        ("12345", "1", "0.5"),
+        ("12345", "2", "empty"),
+        ("12345", "3", "unknown"),
+        ("other", "1", "empty"),
+        ("other", "2", "unknown"),
+        ("third", "1", "unknown"),
+    ];
+    for (key, id, wanted) in cases {
+        if standing_text(book.grade(key, id)) != wanted {
+            return Err("another standing".into());
+        }
+    }
+    Ok(())
+}
+
 #[test]
 fn a_grade_is_that_of_its_id_under_its_key(rt: HostRuntime) -> Result<(), Fail> {
     let alloc = rt.alloc();
     let mut book = Gradebook::new(alloc)?;
     grade_one_of_three(&mut book, alloc)?;
-    assert_eq!(rt; standing_text(book.grade("12345", "1")), "0.5");
-    assert_eq!(rt; standing_text(book.grade("12345", "2")), "empty");
-    assert_eq!(rt; standing_text(book.grade("12345", "3")), "unknown");
-    assert_eq!(rt; standing_text(book.grade("other", "1")), "empty");
-    assert_eq!(rt; standing_text(book.grade("other", "2")), "unknown");
-    assert_eq!(rt; standing_text(book.grade("third", "1")), "unknown");
-    Ok(())
+    expect_standings(&book)
 }
 
 fn is_row(book: &Gradebook, place: usize, key: &str, id: &str, standing: &str) -> bool {
@@ -200,18 +211,31 @@ fn launch_four_times(book: &mut Gradebook, alloc: Global) -> Result<(), Fail> {
     make_launch(book, alloc, "12345", "1", "2", "last")
 }
 
+fn expect_placements(book: &Gradebook) -> Result<(), Fail> {
+    let noted = goes_to(book, "12345", "1", "2", "last")
+        && goes_to(book, "12345", "2", "1", "swapped")
+        && goes_to(book, "other", "1", "2", "other");
+    if !noted {
+        return Err("another placement".into());
+    }
+    for (key, link, user) in [
+        ("12345", "1", "3"),
+        ("12345", "3", "2"),
+        ("other", "2", "1"),
+    ] {
+        if has_placement(book, key, link, user) {
+            return Err("a placement of no launch".into());
+        }
+    }
+    Ok(())
+}
+
 #[test]
 fn a_grade_goes_where_the_last_launch_says(rt: HostRuntime) -> Result<(), Fail> {
     let alloc = rt.alloc();
     let mut book = Gradebook::new(alloc)?;
     launch_four_times(&mut book, alloc)?;
-    assert!(rt; goes_to(&book, "12345", "1", "2", "last"));
-    assert!(rt; goes_to(&book, "12345", "2", "1", "swapped"));
-    assert!(rt; goes_to(&book, "other", "1", "2", "other"));
-    assert!(rt; !has_placement(&book, "12345", "1", "3"));
-    assert!(rt; !has_placement(&book, "12345", "3", "2"));
-    assert!(rt; !has_placement(&book, "other", "2", "1"));
-    Ok(())
+    expect_placements(&book)
 }
 
 // What a call asks of the id 1.
@@ -287,23 +311,25 @@ fn an_issued_id_has_no_grade_yet(rt: HostRuntime) -> Result<(), Fail> {
     Ok(())
 }
 
+fn grade_and_clear(book: &mut Gradebook, alloc: Global) -> Result<(), Fail> {
+    make_change(book, alloc, "12345", "1", Change::Issue)?;
+    make_change(book, alloc, "12345", "1", Change::Grade("0.92"))?;
+    let score = Score::read("0.92");
+    if ask(book, alloc, Question::Read)? != (Reply::GradeRead { score }) {
+        return Err("another grade".into());
+    }
+    make_change(book, alloc, "12345", "1", Change::Clear)?;
+    if ask(book, alloc, Question::Read)? != (Reply::GradeRead { score: None }) {
+        return Err("a grade after it was cleared".into());
+    }
+    Ok(())
+}
+
 #[test]
 fn a_grade_is_read_until_it_is_cleared(rt: HostRuntime) -> Result<(), Fail> {
     let alloc = rt.alloc();
     let mut book = Gradebook::new(alloc)?;
-    let score = Score::read("0.92");
-    make_change(&mut book, alloc, "12345", "1", Change::Issue)?;
-    make_change(&mut book, alloc, "12345", "1", Change::Grade("0.92"))?;
-    assert_eq!(rt;
-        ask(&book, alloc, Question::Read)?,
-        Reply::GradeRead { score }
-    );
-    make_change(&mut book, alloc, "12345", "1", Change::Clear)?;
-    assert_eq!(rt;
-        ask(&book, alloc, Question::Read)?,
-        Reply::GradeRead { score: None }
-    );
-    Ok(())
+    grade_and_clear(&mut book, alloc)
 }
 
 #[test]
@@ -321,14 +347,19 @@ fn a_note_and_a_launch_need_no_id(rt: HostRuntime) -> Result<(), Fail> {
     Ok(())
 }
 
+fn prepare_both(book: &mut Gradebook, alloc: Global) -> Result<(), Fail> {
+    let issued = entry(alloc, "12345", effect_of(alloc, "1", Change::Issue)?)?;
+    book.prepare(&issued)?;
+    let launched = entry(alloc, "12345", launch(alloc, "1", "2", "3", "4")?)?;
+    book.prepare(&launched)?;
+    Ok(())
+}
+
 #[test]
 fn what_is_prepared_is_not_told(rt: HostRuntime) -> Result<(), Fail> {
     let alloc = rt.alloc();
     let mut book = Gradebook::new(alloc)?;
-    let issued = effect_of(alloc, "1", Change::Issue)?;
-    book.prepare(&entry(alloc, "12345", issued)?)?;
-    let launched = launch(alloc, "1", "2", "3", "4")?;
-    book.prepare(&entry(alloc, "12345", launched)?)?;
+    prepare_both(&mut book, alloc)?;
     assert_eq!(rt; book.rows(), 0);
     assert_eq!(rt; book.grade("12345", "1"), Standing::Unknown);
     assert!(rt; !has_placement(&book, "12345", "1", "2"));
