@@ -1,8 +1,8 @@
 -- What one more entry changes in what a book tells.
-use Rattle.std.proofs.Common.{◌≡◌, ℕ, Bool, true, false, true≢false, cond, ◌&&◌, ◌||◌, List, [], ◌∷◌, ◌++◌, map, Option, Some, None, refl, sym, ap, ◌∙◌, bytes_eq, if◌then◌else◌}
+use Rattle.std.proofs.Common.{◌≡◌, ℕ, Bool, true, false, true≢false, cond, ◌&&◌, ◌||◌, List, [], ◌∷◌, ◌++◌, map, Some, None, refl, sym, ap, ◌∙◌, bytes_eq, if◌then◌else◌}
 use Rattle.std.specs.Cmp.Lexicographic.{nat_list_eq_equiv}
-use Rattle.std.specs.List.{fold, list_any}
-use Rattle.std.proofs.lemmas.Bool.{cond_both, cond-true, cond-false, cases_Bool}
+use Rattle.std.specs.List.{list_any}
+use Rattle.std.proofs.lemmas.Bool.{cond-true}
 use Rattle.std.proofs.lemmas.List.{map-append}
 use Rattle.std.proofs.lemmas.List.Sums.{fold-append}
 use Rattle.lti_machine.specs.declared.entry.Entry.{Entry}
@@ -13,7 +13,7 @@ use Rattle.lti_machine.specs.declared.standing.Standing.TheVariants.{Unknown, Em
 use Rattle.lti_machine.specs.Standings as standings
 use Rattle.gradebook.specs.Rows.{Owned, RowValue, same_owned, after_effect, after_entry, issued, row_of, rows_of}
 use Rattle.gradebook.specs.Placements as placements
-use Rattle.gradebook.specs.Book.{BookValue, PlacedValue, is_placed, Holds, Adds, SameContents, standing_in, placement_in}
+use Rattle.gradebook.specs.Book.{BookValue, PlacedValue, Adds, SameContents, standing_in, placement_in}
 use Rattle.gradebook.specs.Tables.{set_row, add_row, put_placed}
 use Rattle.gradebook.proofs.IssuedLemmas.{is_known, nested, same_both, same_from_test, same_itself, Apart, AreKnown, row_by, known_head, known_tail, has_row-by, standing_in-by, issued_apart, known_is_issued, unknown_from}
 use Rattle.gradebook.proofs.PlacedLemmas.{placement_in-put}
@@ -109,7 +109,7 @@ module _ (stands : List ℕ → List ℕ → Standing) where
         by false new =
             let was = unknown_from (stands o.key o.id) new in
             let at_o : issued_by o.key o.id ≡ Empty =
-                issued_is o ∙ cond-true (same_owned o o) (standings.when_issued (stands o.key o.id)) (stands o.key o.id) (same_itself o) ∙ ap standings.when_issued was in
+            issued_is o ∙ cond-true (same_owned o o) (standings.when_issued (stands o.key o.id)) (stands o.key o.id) (same_itself o) ∙ ap standings.when_issued was in
             let kept = issued_kept os all in
             map-append (row_by issued_by) os (o ∷ [])
             ∙ (λ i. kept i ++ record { key = o.key; id = o.id; standing = at_o i } ∷ [])

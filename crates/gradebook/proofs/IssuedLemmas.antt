@@ -1,10 +1,9 @@
 -- Which ids are issued, how each stands, and what one more entry changes in the rows.
-use Rattle.std.proofs.Common.{◌≡◌, ℕ, Bool, true, false, true≢false, cond, ◌&&◌, ◌||◌, List, [], ◌∷◌, ◌++◌, map, refl, sym, ap, subst, ◌∙◌, bytes_eq, if◌then◌else◌}
+use Rattle.std.proofs.Common.{◌≡◌, ℕ, Bool, true, false, true≢false, cond, ◌&&◌, ◌||◌, List, [], ◌∷◌, ◌++◌, map, refl, sym, ap, ◌∙◌, bytes_eq, if◌then◌else◌}
 use Rattle.std.specs.Bool.{⊤}
 use Rattle.std.specs.Cmp.Lexicographic.{nat_list_eq_equiv}
 use Rattle.std.specs.List.{fold, list_any}
-use Rattle.std.proofs.lemmas.Bool.{and_parts, and_from, or_parts, or_right, or_left, or_from, cond_both, cond-true, cond-false}
-use Rattle.std.proofs.lemmas.List.{map-append}
+use Rattle.std.proofs.lemmas.Bool.{and_parts, and_from, or_parts, or_right, or_left, or_from, cond_both}
 use Rattle.std.proofs.lemmas.List.Folds.{list_any-append}
 use Rattle.lti_machine.specs.declared.entry.Entry.{Entry}
 use Rattle.lti_machine.specs.declared.entry.Effect.{Effect}
@@ -12,9 +11,9 @@ use Rattle.lti_machine.specs.declared.entry.Effect.TheVariants as effect
 use Rattle.lti_machine.specs.declared.standing.Standing.{Standing}
 use Rattle.lti_machine.specs.declared.standing.Standing.TheVariants.{Unknown, Empty, Scored}
 use Rattle.lti_machine.specs.Standings as standings
-use Rattle.gradebook.specs.Rows.{Owned, RowValue, same_owned, add_owned, after_effect, after_entry, issued, rows_of}
+use Rattle.gradebook.specs.Rows.{Owned, RowValue, same_owned, add_owned, after_effect, after_entry, issued}
 use Rattle.gradebook.specs.Book.{standing_in}
-use Rattle.gradebook.specs.Tables.{has_row, set_row, add_row}
+use Rattle.gradebook.specs.Tables.{has_row}
 use Rattle.gradebook.proofs.TextLemmas.{same_bytes, bytes_same}
 
 -- ---- the same id under the same key

@@ -1,13 +1,12 @@
 -- What the table of launches tells, by its look-ups, and what a launch changes.
-use Rattle.std.proofs.Common.{◌≡◌, ◌<◌, ◌≤◌, ℕ, Bool, true, false, true≢false, cond, ◌&&◌, List, [], ◌∷◌, ◌++◌, map, Option, Some, None, IsSome, Bor, refl, sym, ap, ◌∙◌, arith, bytes_eq, nat_eq, eq-eqb}
+use Rattle.std.proofs.Common.{◌≡◌, ℕ, Bool, true, false, true≢false, cond, ◌&&◌, List, [], ◌∷◌, Option, Some, None, IsSome, Bor, refl, sym, ap, ◌∙◌, arith, bytes_eq, nat_eq, eq-eqb}
 use Rattle.std.specs.Map.{lookup}
 use Rattle.std.specs.Option.{option_map, option_copied}
 use Rattle.std.proofs.lemmas.Bool.{and_parts, and_from, cond_both}
 use Rattle.indexmap.specs.IndexMap.{insert_entry}
-use Rattle.gradebook.specs.Placements.{PlacementValue}
 use Rattle.gradebook.specs.Book.{PlacedValue, is_placed, placement_in}
 use Rattle.gradebook.specs.Texts.{text_at, IsKnown, Keeps}
-use Rattle.gradebook.specs.Tables.{placement_of, all_eq, placed_at, all_placed_at, IsLaunchWithin, ArePlacedWithin, IsLaunchNumber, is_launch_number, put_placed}
+use Rattle.gradebook.specs.Tables.{placement_of, all_eq, placed_at, all_placed_at, ArePlacedWithin, IsLaunchNumber, is_launch_number, put_placed}
 use Rattle.gradebook.specs.declared.placements.Target.{Target}
 use Rattle.gradebook.proofs.TextLemmas.{same_bytes, bytes_same}
 
@@ -49,7 +48,7 @@ module _ (texts : List (List ℕ)) (key link user : List ℕ) where
   launch_texts p is =
       let front = bytes_eq key (text_at texts p.0) && bytes_eq link (text_at texts p.1) in
       let same : all_eq p p ≡ true =
-          and_from (nat_eq p.0 p.0 && nat_eq p.1 p.1) (nat_eq p.2 p.2) (and_from (nat_eq p.0 p.0) (nat_eq p.1 p.1) (eq-eqb p.0 p.0 refl) (eq-eqb p.1 p.1 refl)) (eq-eqb p.2 p.2 refl) in
+      and_from (nat_eq p.0 p.0 && nat_eq p.1 p.1) (nat_eq p.2 p.2) (and_from (nat_eq p.0 p.0) (nat_eq p.1 p.1) (eq-eqb p.0 p.0 refl) (eq-eqb p.1 p.1 refl)) (eq-eqb p.2 p.2 refl) in
       let parts = and_parts front (bytes_eq user (text_at texts p.2)) (sym (is.only p is.within) ∙ same) in
       let pair = and_parts (bytes_eq key (text_at texts p.0)) (bytes_eq link (text_at texts p.1)) parts.0 in
       record { of_key = sym (same_bytes _ _ pair.0); of_link = sym (same_bytes _ _ pair.1); of_user = sym (same_bytes _ _ parts.1) }

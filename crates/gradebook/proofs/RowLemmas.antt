@@ -1,13 +1,12 @@
 -- What the table of ids tells, by its look-ups.
-use Rattle.std.proofs.Common.{◌≡◌, ◌<◌, ◌≤◌, ℕ, Bool, true, false, cond, ◌&&◌, ◌||◌, List, [], ◌∷◌, ◌++◌, map, Option, Some, None, IsSome, is_some, true≢false, unwrap_or, refl, sym, ap, ◌∙◌, arith, bytes_eq, nat_eq, eq-eqb}
-use Rattle.std.specs.List.{AllByRecursion}
+use Rattle.std.proofs.Common.{◌≡◌, ℕ, Bool, true, false, cond, ◌||◌, List, [], ◌∷◌, ◌++◌, Option, Some, None, IsSome, is_some, true≢false, unwrap_or, refl, sym, ap, ◌∙◌, arith, bytes_eq, nat_eq, eq-eqb}
 use Rattle.std.specs.Map.{lookup, set_value}
 use Rattle.std.proofs.lemmas.Bool.{and_parts, and_from, cond_both}
 use Rattle.std.proofs.lemmas.List.{map-append}
 use Rattle.std.proofs.lemmas.Option.{none-some}
 use Rattle.lti_machine.specs.declared.standing.Standing.{Standing}
 use Rattle.lti_machine.specs.declared.standing.Standing.TheVariants.{Unknown}
-use Rattle.gradebook.specs.Book.{is_row, standing_in}
+use Rattle.gradebook.specs.Book.{standing_in}
 use Rattle.gradebook.specs.Texts.{text_at, IsKnown, Keeps}
 use Rattle.gradebook.specs.Tables.{row_at, rows_at, both_eq, IsOwnedWithin, AreRowsWithin, IsOwnedNumber, is_owned_number, has_row, set_row}
 use Rattle.gradebook.proofs.TextLemmas.{same_bytes, bytes_same}

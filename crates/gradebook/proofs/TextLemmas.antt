@@ -1,5 +1,5 @@
 -- In a list of texts without repeats, the place of a text is the only one at which that text stands.
-use Rattle.std.proofs.Common.{◌≡◌, ◌<◌, ◌≤◌, ℕ, Bool, true, false, true≢false, List, [], ◌∷◌, map, length, get_or, Option, Some, None, IsSome, position, refl, sym, ap, subst, ◌∙◌, arith, ⊎_elim, bytes_eq, nat_eq, eq-eqb, is_some}
+use Rattle.std.proofs.Common.{◌≡◌, ◌<◌, ℕ, Bool, true, false, true≢false, List, [], ◌∷◌, map, length, get_or, Option, Some, None, IsSome, position, refl, sym, ap, ◌∙◌, arith, ⊎_elim, bytes_eq, nat_eq, eq-eqb}
 use Rattle.std.specs.Cmp.Lexicographic.{bytes_decides}
 use Rattle.std.specs.List.{list_any, IsDistinct}
 use Rattle.std.proofs.lemmas.Bool.{cases_Bool, cases_order, false_from_ne_true, eqb-true}
@@ -8,7 +8,7 @@ use Rattle.std.proofs.lemmas.List.Folds.{list_any_at, Any-from_list_any}
 use Rattle.std.proofs.lemmas.List.Quantifiers.{position-Some}
 use Rattle.std.proofs.lemmas.Map.Keys.{apart_from_distinct}
 use Rattle.std.proofs.lemmas.Option.{none-some}
-use Rattle.gradebook.specs.Texts.{text_at, IsKnown, IsNumber, Keeps, is_number}
+use Rattle.gradebook.specs.Texts.{text_at, IsKnown, IsNumber, Keeps}
 
 pub same_bytes : (a b : List ℕ) → bytes_eq a b ≡ true → a ≡ b
 same_bytes a b = (bytes_decides a b).0

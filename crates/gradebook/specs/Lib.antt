@@ -4,4 +4,5 @@ pub mod Book
 pub mod Texts
 pub mod Tables
 pub mod Inside
+pub mod Told
 pub mod Laws

@@ -1,13 +1,16 @@
 // The book of grades.
 ghost use Rattle.std.specs.Prelude.{◌≡◌, [], List, length, slice_get, true, OnOk, IfOk};
 ghost use Rattle.std.specs.Option.{option_map};
-ghost use Rattle.lti_machine.specs.declared.entry.Entry.{Entry as Accepted};
+ghost use Rattle.lti_machine.specs.declared.entry.Entry.{Entry};
+ghost use Rattle.lti_machine.specs.declared.standing.Standing.TheVariants.{Empty};
 ghost use Rattle.lti_machine.specs.Belongs.{belongs};
 ghost use Rattle.lti_machine.specs.Rules as rules;
 ghost use Rattle.lti_machine.specs.Standings as standings;
-ghost use Rattle.gradebook.specs.Book.{Holds, Adds, SameContents, IsReady};
+ghost use Rattle.gradebook.specs.Book.{Holds, Adds, SameContents, IsReady, IsReadyToIssue, IsReadyToPlace};
 ghost use Rattle.gradebook.specs.Rows.{rows_of};
 ghost use Rattle.gradebook.specs.Placements as placements;
+ghost use Rattle.gradebook.specs.Told.{row_told, placement_told};
+ghost use Rattle.gradebook.specs.Tables.{set_row, add_row, placement_of, put_placed};
 
 use crate::placement::Placement;
 use crate::placements::{self, Placements, Target};
@@ -56,7 +59,7 @@ impl Gradebook {
 
     /// The reply to what the call asks, where nothing speaks against its nonce.
     pub fn reply(&self, call: &Call) -> Reply
-        ensures reply { (entries : List Accepted) → Holds self.now entries → result ≡ rules.result entries call.now }
+        ensures reply { (entries : List Entry) → Holds self.now entries → result ≡ rules.result entries call.now }
         ensures belongs { belongs call.now.action result ≡ true }
     {
         let standing = match call.action.id() {
@@ -67,7 +70,8 @@ impl Gradebook {
     }
 
     /// Makes room for one entry, so that `apply` of it takes no memory. The room is for this entry alone, and lasts
-    /// until the next call that changes the book. Whether it is made or not, the book tells what it told.
+    /// until the next call that changes the book. Whether it is made or not, the book tells what it told; on
+    /// `NoMemory` some of the entry's texts may be kept. The end, 2^32 - 1 texts, counts as want of memory.
     pub fn prepare(&mut self, entry: &Entry) -> Result<(), NoMemory>
         ensures contents { SameContents self.old self.new }
         ensures ready { OnOk result (IsReady self.new entry.now) }
@@ -93,70 +97,71 @@ impl Gradebook {
         requires { IsReady self.old entry }
         ensures { Adds self.old self.new entry }
     {
-        let key = entry.key;
+        let Entry { key, effect, .. } = entry;
         let key = key.get();
-        let effect = entry.effect;
         match effect {
             Effect::Nothing => {}
-            Effect::Issued { id } => {
-                standings::issue(&self.texts, &mut self.standings, key, id.get());
-            }
-            Effect::Grade { id, score } => {
-                standings::set(
-                    &self.texts,
-                    &mut self.standings,
-                    key,
-                    id.get(),
-                    Standing::Scored(score),
-                );
-            }
-            Effect::Cleared { id } => {
-                standings::set(
-                    &self.texts,
-                    &mut self.standings,
-                    key,
-                    id.get(),
-                    Standing::Empty,
-                );
-            }
+            Effect::Issued { id } => self.issue(key, id.get()),
+            Effect::Grade { id, score } => self.set(key, id.get(), Standing::Scored(score)),
+            Effect::Cleared { id } => self.set(key, id.get(), Standing::Empty),
             Effect::Launch {
                 link,
                 user,
                 sourced_id,
                 service,
             } => {
-                placements::place(
-                    &self.texts,
-                    &mut self.placements,
-                    key,
-                    link.get(),
-                    user.get(),
-                    Target {
-                        sourced_id,
-                        service,
-                    },
-                );
+                let target = Target {
+                    sourced_id,
+                    service,
+                };
+                self.place(key, link.get(), user.get(), target);
             }
         }
     }
 
+    // Adds an id with no grade, unless it is issued already.
+    fn issue(&mut self, key: &str, id: &str)
+        requires { IsReadyToIssue self.old key.now id.now }
+        ensures rows { self.new.rows ≡ add_row self.old.rows (record { key = key.now; id = id.now; standing = Empty }) }
+        ensures placed { self.new.placed ≡ self.old.placed }
+    {
+        standings::issue(&self.texts, &mut self.standings, key, id);
+    }
+
+    // Changes how an issued id stands.
+    fn set(&mut self, key: &str, id: &str, standing: Standing)
+        ensures rows { self.new.rows ≡ set_row self.old.rows key.now id.now standing }
+        ensures placed { self.new.placed ≡ self.old.placed }
+    {
+        standings::set(&self.texts, &mut self.standings, key, id, standing);
+    }
+
+    // Notes where the grade of a key's link and user goes from now on.
+    fn place(&mut self, key: &str, link: &str, user: &str, target: Target)
+        requires { IsReadyToPlace self.old key.now link.now user.now }
+        ensures rows { self.new.rows ≡ self.old.rows }
+        ensures placed { self.new.placed ≡ put_placed self.old.placed (record { key = key.now; link = link.now; user = user.now; placement = placement_of target }) }
+    {
+        placements::place(&self.texts, &mut self.placements, key, link, user, target);
+    }
+
     /// How the grade of an id stands under a key.
     pub fn grade(&self, key: &str, id: &str) -> Standing
-        ensures { (entries : List Accepted) → Holds self.now entries → result ≡ standings.standing entries key.now id.now }
+        ensures { (entries : List Entry) → Holds self.now entries → result ≡ standings.standing entries key.now id.now }
     {
         standings::standing_of(&self.texts, &self.standings, key, id)
     }
 
     /// How many ids are issued.
     pub fn rows(&self) -> usize
-        ensures { (entries : List Accepted) → Holds self.now entries → result ≡ length (rows_of entries) }
+        ensures { (entries : List Entry) → Holds self.now entries → result ≡ length (rows_of entries) }
     {
         self.standings.len()
     }
 
     /// The issued id at this place, counted from 0 in the order of first issue.
     pub fn row(&self, place: usize) -> Option<Row<'_>>
-        ensures { (entries : List Accepted) → Holds self.now entries → option_map (λ row. record { key = row.key.now; id = row.id.now; standing = row.standing }) result ≡ slice_get (rows_of entries) place }
+        ensures { (entries : List Entry) → Holds self.now entries → option_map row_told result ≡ slice_get (rows_of entries) place }
     {
         let (numbers, standing) = self.standings.get_index(place)?;
         Some(Row {
@@ -169,7 +174,7 @@ impl Gradebook {
     /// Where the grade of a user of a resource link goes under a key, by the last launch of that user from
     /// that link; `None` where there was none.
     pub fn placement(&self, key: &str, link: &str, user: &str) -> Option<Placement<'_>>
-        ensures { (entries : List Accepted) → Holds self.now entries → option_map (λ placement. record { sourced_id = placement.sourced_id.now; service = placement.service.now }) result ≡ placements.placement entries key.now link.now user.now }
+        ensures { (entries : List Entry) → Holds self.now entries → option_map placement_told result ≡ placements.placement entries key.now link.now user.now }
     {
         let target = placements::target_of(&self.texts, &self.placements, key, link, user)?;
         Some(Placement {

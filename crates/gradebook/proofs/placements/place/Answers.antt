@@ -1,4 +1,4 @@
-use Rattle.std.proofs.Common.{◌≡◌, Some, sym, ◌∙◌, ap, subst, rules}
+use Rattle.std.proofs.Common.{◌≡◌, sym, ◌∙◌, ap, subst, rules}
 use Rattle.indexmap.specs.IndexMap.{insert_entry}
 use Rattle.gradebook.specs.Tables.{ArePlacedWithin, IsLaunchNumber, all_eq, all_placed_at}
 use Rattle.gradebook.proofs.PlacedLemmas.{launch_found, put_placed-at, put_within}

@@ -1,4 +1,4 @@
-use Rattle.std.proofs.Common.{◌≡◌, Some, None, sym, ◌∙◌, ap}
+use Rattle.std.proofs.Common.{Some, None, sym, ◌∙◌, ap}
 use Rattle.std.specs.Option.{option_map}
 use Rattle.gradebook.specs.Tables.{placement_of}
 use Rattle.gradebook.proofs.PlacedLemmas.{map_copied, placement_in-at, launch_nothing}

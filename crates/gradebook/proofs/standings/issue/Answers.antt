@@ -1,9 +1,9 @@
-use Rattle.std.proofs.Common.{◌≡◌, false, true, ◌∷◌, ◌++◌, [], Some, is_some, sym, ◌∙◌, ap, subst, rules, cond}
+use Rattle.std.proofs.Common.{◌≡◌, Some, sym, ◌∙◌, ap, subst, rules}
 use Rattle.std.proofs.lemmas.Bool.{cond-true, cond-false}
 use Rattle.lti_machine.specs.declared.standing.Standing.TheVariants.{Empty}
 use Rattle.indexmap.specs.IndexMap.{insert_entry}
 use Rattle.indexmap.proofs.CallerLemmas.{insert_entry-new}
-use Rattle.gradebook.specs.Tables.{AreRowsWithin, IsOwnedNumber, both_eq, has_row, rows_at}
+use Rattle.gradebook.specs.Tables.{AreRowsWithin, IsOwnedNumber, both_eq, rows_at}
 use Rattle.gradebook.proofs.RowLemmas.{owned_found, has_row-at, push_row-at, push_within, none_from}
 use Rattle.gradebook.proofs.standings.issue.Goals as goal
 

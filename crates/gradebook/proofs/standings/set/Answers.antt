@@ -1,4 +1,4 @@
-use Rattle.std.proofs.Common.{◌≡◌, Some, None, sym, ◌∙◌, ap, subst}
+use Rattle.std.proofs.Common.{Some, None, sym, ◌∙◌, ap, subst}
 use Rattle.gradebook.specs.Tables.{AreRowsWithin, both_eq, rows_at}
 use Rattle.gradebook.proofs.RowLemmas.{set_row-at, set_within, set_row-none, lookup_nothing}
 use Rattle.gradebook.proofs.standings.set.Goals as goal

@@ -1,4 +1,4 @@
-use Rattle.std.proofs.Common.{◌≡◌, sym, ap, ◌∙◌, unwrap_or, Some, None}
+use Rattle.std.proofs.Common.{sym, ap, ◌∙◌, unwrap_or, Some, None}
 use Rattle.lti_machine.specs.declared.standing.Standing.TheVariants.{Unknown}
 use Rattle.gradebook.proofs.RowLemmas.{standing_in-at, lookup_nothing}
 use Rattle.gradebook.proofs.standings.standing_of.Goals as goal

@@ -1,4 +1,4 @@
-use Rattle.std.proofs.Common.{◌≡◌, sym, ap, ◌∙◌}
+use Rattle.std.proofs.Common.{sym, ap, ◌∙◌}
 use Rattle.gradebook.specs.Inside.{value_of}
 use Rattle.gradebook.specs.Tables.{rows_at, all_placed_at}
 use Rattle.gradebook.proofs.RowLemmas.{rows_kept}
