@@ -3,3 +3,4 @@ pub mod UrlLemmas
 pub mod HeaderLemmas
 pub mod WritableLemmas
 pub mod PassbackLemmas
+pub mod AskedLemmas

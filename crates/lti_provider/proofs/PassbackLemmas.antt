@@ -1,5 +1,5 @@
 -- What was written, and then what is made of what comes.
-use Rattle.std.proofs.Common.{◌≡◌, List, [], ◌++◌, ℕ, inl, inr, sym, ap, ◌∙◌, subst, refl, Result, Ok, Err, IsErrAnd}
+use Rattle.std.proofs.Common.{◌≡◌, List, [], ◌++◌, ℕ, inr, sym, ap, ◌∙◌, subst, Result, Ok, Err, IsErrAnd}
 use Rattle.lti_outside.specs.Traffic.{Traffic, Moves, no_fault, IsAtEnd}
 use Rattle.lti_outside.specs.declared.limits.Limits.{Limits}
 use Rattle.lti_outside.proofs.TrafficLemmas.{Moves-takes}
@@ -12,9 +12,8 @@ use Rattle.http_wire.specs.declared.fault.WireFault.TheVariants as wire
 use Rattle.http_wire.specs.declared.message.Answered.{Answered}
 use Rattle.pox_outcomes.specs.declared.answer.Answer.{Answer}
 use Rattle.lti_provider.specs.Causes.{fault_by}
-use Rattle.lti_provider.specs.Made.{IsJudged}
+use Rattle.lti_provider.specs.Judged.{IsJudged}
 use Rattle.lti_provider.specs.Passback.{Sending, IsPosted, IsAnswered, IsMade, IsPassedBack}
-use Rattle.lti_provider.specs.Unposted.{IsUnposted}
 use Rattle.lti_provider.specs.declared.passback_fault.PassbackFault.{PassbackFault}
 use Rattle.lti_provider.specs.declared.passback_fault.PassbackFault.TheVariants as fault
 
@@ -100,12 +99,3 @@ unread_made limits before after start kept cause (Ok answer) none is came = absu
 unread_made limits before after start kept cause (Err f) none is came =
     subst (λ (f : PassbackFault). IsMade limits before after [] (Err f)) (sym is)
     (unread limits before after kept cause (came.0, came.1, subst (λ (bytes : List ℕ). AnswerTells limits (bytes ++ came.0) kept (IsAtEnd after) (Err cause)) none came.2))
-
--- the outcome has no request
-pub not_posted : (sending : Sending) (limits : Limits) (before : Traffic) (f : PassbackFault) → IsUnposted sending.outcome f → IsPassedBack sending limits before before (Err f)
-not_posted sending limits before fault.NotXml why = (why, refl)
-not_posted sending limits before fault.NoMemory why = inl refl
-not_posted sending limits before fault.WriteFault why = absurd why
-not_posted sending limits before (fault.Wire cause) why = absurd why
-not_posted sending limits before (fault.BadStatus status) why = absurd why
-not_posted sending limits before (fault.BadEnvelope at) why = absurd why

@@ -4,6 +4,6 @@ pub mod Answers
 pub mod Before
 pub mod Causes
 pub mod Unposted
-pub mod Made
+pub mod Judged
 pub mod Passback
 pub mod Laws

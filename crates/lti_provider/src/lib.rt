@@ -20,6 +20,6 @@ mod tests;
 
 pub use calls::launch_call;
 pub use fault::ProviderFault;
-pub use laws::signed_is_writable;
+pub use laws::{sent_is_asked, signed_is_writable};
 pub use passback_fault::PassbackFault;
 pub use sending::passback;

@@ -43,17 +43,6 @@ impl From<WireFault> for PassbackFault {
     }
 }
 
-impl From<lti_outside::WriteFault> for PassbackFault {
-    ghost use Rattle.std.specs.Prelude.{◌≡◌};
-    ghost use Rattle.lti_provider.specs.declared.passback_fault.PassbackFault.TheVariants as fault;
-
-    ghost from_gives = { λ _ made. made ≡ fault.WriteFault };
-
-    fn from(_: lti_outside::WriteFault) -> PassbackFault {
-        PassbackFault::WriteFault
-    }
-}
-
 impl From<NoMemory> for PassbackFault {
     ghost use Rattle.std.specs.Prelude.{◌≡◌};
     ghost use Rattle.lti_provider.specs.declared.passback_fault.PassbackFault.TheVariants as fault;

@@ -57,74 +57,142 @@ const FAILURE: &str =
 const REQUEST: &[u8] =
     b"POST /lti/outcomes HTTP/1.0\r\nHost: lms.example\r\nContent-Type: application/xml\r\nAuthorization: OAuth oauth_consumer_key=\"12345\", oauth_signature_method=\"HMAC-SHA1\", oauth_timestamp=\"1400000000\", oauth_nonce=\"n\", oauth_version=\"1.0\", oauth_body_hash=\"TUm9Tv4%2FkoMVNJDAvRvYYCrHqFw%3D\", oauth_signature=\"dpuP8UVh2dHFlhSd0DX4Yv2nRY8%3D\"\r\nContent-Length: 581\r\n\r\n<?xml version=\"1.0\" encoding=\"UTF-8\"?><imsx_POXEnvelopeRequest xmlns=\"http://www.imsglobal.org/services/ltiv1p1/xsd/imsoms_v1p0\"><imsx_POXHeader><imsx_POXRequestHeaderInfo><imsx_version>V1.0</imsx_version><imsx_messageIdentifier>n</imsx_messageIdentifier></imsx_POXRequestHeaderInfo></imsx_POXHeader><imsx_POXBody><replaceResultRequest><resultRecord><sourcedGUID><sourcedId>3124567</sourcedId></sourcedGUID><result><resultScore><language>en</language><textString>0.5</textString></resultScore></result></resultRecord></replaceResultRequest></imsx_POXBody></imsx_POXEnvelopeRequest>";
 
+// What comes of the score where the link gives this text.
+fn answered(alloc: Global, text: &str) -> Result<Result<Answer, PassbackFault>, Fail> {
+    let mut ends = link(alloc, text, &[])?;
+    sent(alloc, &mut ends, "n")
+}
+
+fn is_written(alloc: Global, text: &str, wanted: &[u8]) -> Result<bool, Fail> {
+    let mut ends = link(alloc, text, &[])?;
+    let came = sent(alloc, &mut ends, "n")?;
+    Ok(came.is_ok() && ends.given() == wanted)
+}
+
 #[test]
 fn the_request_is_the_one_that_was_signed_outside(rt: HostRuntime) -> Result<(), Fail> {
-    let alloc = rt.alloc();
-    let mut ends = link(alloc, SUCCESS, &[])?;
-    let came = sent(alloc, &mut ends, "n")?;
-    assert!(rt; came.is_ok());
-    assert!(rt; ends.given() == REQUEST);
+    assert!(rt; is_written(rt.alloc(), SUCCESS, REQUEST)?);
     Ok(())
+}
+
+// Whether an answer comes with this message identifier, this major code and this description.
+fn is_answer(
+    alloc: Global,
+    text: &str,
+    message: &str,
+    major: Major,
+    description: &str,
+) -> Result<bool, Fail> {
+    match &answered(alloc, text)? {
+        Ok(answer) => Ok(
+            answer.message.get() == message
+                && answer.major == major
+                && answer.description.get() == description,
+        ),
+        Err(_) => Ok(false),
+    }
 }
 
 #[test]
 fn the_answer_is_for_the_caller_to_judge(rt: HostRuntime) -> Result<(), Fail> {
-    let alloc = rt.alloc();
-    let done = sent(alloc, &mut link(alloc, SUCCESS, &[])?, "n")?;
-    assert!(rt;
-        matches!(done, Ok(answer) if answer.major == Major::Success
-        && answer.description.get() == "Score for 3124567 is now 0.5")
-    );
-    let refused = sent(alloc, &mut link(alloc, FAILURE, &[])?, "n")?;
-    assert!(rt;
-        matches!(refused, Ok(answer) if answer.major == Major::Failure && answer.message.get() == "7")
-    );
+    let answers = [
+        (
+            SUCCESS,
+            "4560",
+            Major::Success,
+            "Score for 3124567 is now 0.5",
+        ),
+        (FAILURE, "7", Major::Failure, ""),
+    ];
+    for (text, message, major, description) in answers {
+        assert!(rt; is_answer(rt.alloc(), text, message, major, description)?);
+    }
     Ok(())
+}
+
+fn is_no_answer(alloc: Global, text: &str, wanted: WireFault) -> Result<bool, Fail> {
+    match &answered(alloc, text)? {
+        Err(PassbackFault::Wire(cause)) => Ok(*cause == wanted),
+        _ => Ok(false),
+    }
 }
 
 #[test]
 fn what_is_no_answer_has_its_cause(rt: HostRuntime) -> Result<(), Fail> {
-    let alloc = rt.alloc();
-    let half = "HTTP/1.0 200 OK\r\nContent-Length: 325\r\n\r\n<imsx_POXEnvelopeResponse xmlns=''>";
-    let came = sent(alloc, &mut link(alloc, half, &[])?, "n")?;
-    assert!(rt; matches!(came, Err(PassbackFault::Wire(WireFault::CutShort))));
-    let chunked = "HTTP/1.1 200 OK\r\nTransfer-Encoding: chunked\r\n\r\n0\r\n\r\n";
-    let came = sent(alloc, &mut link(alloc, chunked, &[])?, "n")?;
-    assert!(rt; matches!(came, Err(PassbackFault::Wire(WireFault::Chunked))));
+    let texts = [
+        (
+            "HTTP/1.0 200 OK\r\nContent-Length: 325\r\n\r\n<imsx_POXEnvelopeResponse xmlns=''>",
+            WireFault::CutShort,
+        ),
+        (
+            "HTTP/1.1 200 OK\r\nTransfer-Encoding: chunked\r\n\r\n0\r\n\r\n",
+            WireFault::Chunked,
+        ),
+    ];
+    for (text, wanted) in texts {
+        assert!(rt; is_no_answer(rt.alloc(), text, wanted)?);
+    }
     Ok(())
+}
+
+fn has_status(alloc: Global, text: &str, wanted: u16) -> Result<bool, Fail> {
+    match &answered(alloc, text)? {
+        Err(PassbackFault::BadStatus { status }) => Ok(*status == wanted),
+        _ => Ok(false),
+    }
+}
+
+fn is_bad_at(alloc: Global, text: &str, wanted: u64) -> Result<bool, Fail> {
+    match &answered(alloc, text)? {
+        Err(PassbackFault::BadEnvelope { at }) => Ok(*at == wanted),
+        _ => Ok(false),
+    }
 }
 
 #[test]
 fn other_answers_are_refused(rt: HostRuntime) -> Result<(), Fail> {
-    let alloc = rt.alloc();
     let broken = "HTTP/1.0 500 Internal Server Error\r\nContent-Length: 0\r\n\r\n";
-    let came = sent(alloc, &mut link(alloc, broken, &[])?, "n")?;
-    assert!(rt; matches!(came, Err(PassbackFault::BadStatus { status: 500 })));
-    let page = "HTTP/1.0 200 OK\r\nContent-Type: text/html\r\n\r\n<html></html>";
-    let came = sent(alloc, &mut link(alloc, page, &[])?, "n")?;
-    assert!(rt; matches!(came, Err(PassbackFault::BadEnvelope { at: 1 })));
-    let request = "HTTP/1.0 200 OK\r\n\r\n<imsx_POXEnvelopeRequest xmlns=''>";
-    let came = sent(alloc, &mut link(alloc, request, &[])?, "n")?;
-    assert!(rt; matches!(came, Err(PassbackFault::BadEnvelope { at: 19 })));
+    assert!(rt; has_status(rt.alloc(), broken, 500)?);
+    let pages = [
+        (
+            "HTTP/1.0 200 OK\r\nContent-Type: text/html\r\n\r\n<html></html>",
+            1,
+        ),
+        (
+            "HTTP/1.0 200 OK\r\n\r\n<imsx_POXEnvelopeRequest xmlns=''>",
+            19,
+        ),
+    ];
+    for (text, at) in pages {
+        assert!(rt; is_bad_at(rt.alloc(), text, at)?);
+    }
     Ok(())
+}
+
+fn is_write_fault(alloc: Global, failing: &[u64]) -> Result<bool, Fail> {
+    let mut ends = link(alloc, SUCCESS, failing)?;
+    match &sent(alloc, &mut ends, "n")? {
+        Err(PassbackFault::WriteFault) => Ok(ends.given().is_empty()),
+        _ => Ok(false),
+    }
 }
 
 #[test]
 fn a_request_that_is_not_written_is_told(rt: HostRuntime) -> Result<(), Fail> {
-    let alloc = rt.alloc();
-    let mut ends = link(alloc, SUCCESS, &[0])?;
-    let came = sent(alloc, &mut ends, "n")?;
-    assert!(rt; matches!(came, Err(PassbackFault::WriteFault)));
-    assert!(rt; ends.given().is_empty());
+    assert!(rt; is_write_fault(rt.alloc(), &[0])?);
     Ok(())
+}
+
+fn is_no_xml(alloc: Global, message: &str) -> Result<bool, Fail> {
+    let mut ends = link(alloc, SUCCESS, &[])?;
+    match &sent(alloc, &mut ends, message)? {
+        Err(PassbackFault::NotXml) => Ok(ends.given().is_empty()),
+        _ => Ok(false),
+    }
 }
 
 #[test]
 fn a_text_that_is_not_xml_is_not_sent(rt: HostRuntime) -> Result<(), Fail> {
-    let alloc = rt.alloc();
-    let mut ends = link(alloc, SUCCESS, &[])?;
-    let came = sent(alloc, &mut ends, "n\u{1}")?;
-    assert!(rt; matches!(came, Err(PassbackFault::NotXml)));
-    assert!(rt; ends.given().is_empty());
+    assert!(rt; is_no_xml(rt.alloc(), "n\u{1}")?);
     Ok(())
 }

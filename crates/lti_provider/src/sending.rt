@@ -5,7 +5,7 @@ ghost use Rattle.oauth_text.specs.UrlView as url_view;
 ghost use Rattle.oauth_request.specs.Signing.{CanSign};
 ghost use Rattle.http_wire.specs.Message.{parts_of};
 ghost use Rattle.http_wire.specs.Written.{IsSoundRequest};
-ghost use Rattle.lti_provider.specs.Made.{IsJudged};
+ghost use Rattle.lti_provider.specs.Judged.{IsJudged};
 ghost use Rattle.lti_provider.specs.Passback.{IsPosted, IsMade, IsPassedBack};
 ghost use Rattle.lti_provider.specs.Unposted.{IsUnposted};
 
@@ -107,6 +107,8 @@ pub fn passback<L: Link>(
         limits.now (L.traffic link.old) (L.traffic link.new) result }
 {
     let request = posted(alloc, url, outcome, key, secret, moment, nonce)?;
-    http_wire::write_request(link, &request)?;
-    made(alloc, link, limits)
+    match http_wire::write_request(link, &request) {
+        Ok(()) => made(alloc, link, limits),
+        Err(_) => Err(PassbackFault::WriteFault),
+    }
 }
