@@ -1,5 +1,5 @@
 -- What the program does by its words, and what it prints for a status (this project's own).
-use Rattle.std.specs.Prelude.{◌≡◌, ℕ, List, [], ◌∷◌, codes, ◌==◌, if◌then◌else◌}
+use Rattle.std.specs.Prelude.{◌≡◌, ℕ, List, [], ◌∷◌, codes, ◌==◌, bytes_eq, if◌then◌else◌, Option, Some, None}
 use Rattle.lti_cmd.specs.declared.words.Asked.{Asked}
 use Rattle.lti_cmd.specs.declared.words.Asked.TheVariants.{Help, Version, Work}
 
@@ -8,6 +8,11 @@ abbrev pub IsAsked : List (List ℕ) → Asked → Type 0
 IsAsked words Help = words ≡ codes "--help" ∷ []
 IsAsked words Version = words ≡ codes "--version" ∷ []
 IsAsked words Work = (words ≡ codes "--help" ∷ [] → ⊥) × (words ≡ codes "--version" ∷ [] → ⊥)
+
+-- the second word of `passback`
+abbrev pub address_in : List (List ℕ) → Option (List ℕ)
+address_in (name ∷ address ∷ words) = if bytes_eq name (codes "passback") then Some address else None
+address_in words = None
 
 -- a status with what is printed for it
 pub record Row : Type 0 where
@@ -26,7 +31,12 @@ table =
     ∷ row 5 (codes "write fault")
     ∷ row 8 (codes "want of memory")
     ∷ row 9 (codes "cut short")
+    ∷ row 11 (codes "already issued")
     ∷ row 14 (codes "refused message")
+    ∷ row 15 (codes "not a success")
+    ∷ row 16 (codes "no such placement")
+    ∷ row 17 (codes "unknown key")
+    ∷ row 18 (codes "not issued")
     ∷ []
 
 -- the text of the first row with this status

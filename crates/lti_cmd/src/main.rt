@@ -1,18 +1,21 @@
 //! The program: its words, its real ends, and its status.
 //!
-//! All that it does is `lti_server::run`, over standard input and output, the settings file, the system's clock
-//! and a generator that the system seeds. Here stand only the texts of `--help` and `--version`, and what is
-//! printed for a status.
+//! All that it does is `lti_server::run`, over standard input and output or, for `passback`, a connection to the
+//! address that is named, the settings file, the system's clock and a generator that the system seeds. Here stand
+//! only the texts of `--help` and `--version`, and what is printed for a status.
 #![tactic(auto)]
 
 mod words;
 
-use crate::words::{Asked, read_words, text_of};
-use lti_outside::{Limits, StdLink, StdSource, SystemClock, SystemRandom};
-use lti_server::run;
+use crate::words::{Asked, address_of, read_words, text_of};
+use lti_outside::{Limits, Link, StdLink, StdSource, SystemClock, SystemRandom};
+use lti_server::{Scales, run};
 use rand::rngs::StdRng;
+use score_decimal::{Scale, ceiling_points, floor_points, nearest_points};
+use std::alloc::{AllocError, Global};
 use std::fs::File;
 use std::io::Read;
+use std::net::TcpStream;
 use std::process::ExitCode;
 use std::rt::Env;
 use std::{env, io};
@@ -24,13 +27,28 @@ lti_cmd check URL KEY SECRET MOMENT
 lti_cmd answer
     answers the HTTP/1.1 requests of standard input, as a tool that signed launches start,
     by the scheme and the keys of the file lti.json
+lti_cmd issue KEY ID
+    takes grades of the sourcedId from now on
+lti_cmd launch URL KEY LINK USER ID SERVICE
+    prints a launch as a signed form
+lti_cmd passback ADDRESS KEY LINK USER SCORE
+    sends a score to where the last launch of the user from the link says
+lti_cmd grades SCALE MAX
+    prints the issued sourcedIds with their scores and points, and the total
 lti_cmd --help
 lti_cmd --version
+
+Each run begins with no call accepted: what one run issues, the next doesn't know.
 
 URL       the address that the forms are posted to, as https://tool.example/lti/launch
 KEY       the consumer key, 1 to 255 bytes
 SECRET    the key's secret
 MOMENT    the time of the check, in seconds since 1970, 1 to 15 digits
+ID        the sourcedId of a grade; LINK, USER: the resource link and its user; 1 to 1023 bytes each
+SERVICE   the address of the service that takes grades, or an empty word
+ADDRESS   the host and the port of that service, as lms.example:80
+SCORE     a number from 0 to 1, as 0.92
+SCALE     floor, nearest or ceiling; MAX: the points of a full score, 1 to 1000000
 ";
 
 // The settings, in the directory of the run.
@@ -47,21 +65,50 @@ fn given_words(rt: &(impl Env + AllocGlobal)) -> io::Result<Vec<String>> {
     Ok(words)
 }
 
-// Does what the words ask, with the settings that this reads. A system that gives no seed is a read fault.
-fn work<R: Read + Drop>(rt: &HostRuntime, words: &[String], settings: R) -> u8 {
+// The scales of the three words.
+fn scales(alloc: Global) -> Result<Scales, AllocError> {
+    Ok(Scales {
+        floor: Scale::new(Box::new(alloc, floor_points)?),
+        nearest: Scale::new(Box::new(alloc, nearest_points)?),
+        ceiling: Scale::new(Box::new(alloc, ceiling_points)?),
+    })
+}
+
+// Does what the words ask over these ends, with the settings that this reads. A system that gives no seed is a read fault.
+fn work<R: Read + Drop, I: Link>(
+    rt: &HostRuntime,
+    words: &[String],
+    settings: R,
+    ends: &mut I,
+) -> u8 {
     let Ok(generator) = rand::make_rng::<StdRng, _>(rt) else {
         return 4;
     };
-    let mut ends = StdLink::new(rt.reader(), io::writer(rt));
+    let Ok(scales) = scales(rt.alloc()) else {
+        return 8;
+    };
     run(
         rt.alloc(),
         words,
         &mut StdSource::new(settings),
-        &mut ends,
+        ends,
         &SystemClock::new(rt),
         &mut SystemRandom::new(generator),
+        &scales,
         &Limits::usual(),
     )
+}
+
+// Does what the words ask, over the connection that they need. An address that can't be connected to is a read fault.
+fn connect_and_work<R: Read + Drop>(rt: &HostRuntime, words: &[String], settings: R) -> u8 {
+    let Some(address) = address_of(words) else {
+        let mut ends = StdLink::new(rt.reader(), io::writer(rt));
+        return work(rt, words, settings, &mut ends);
+    };
+    match TcpStream::connect(rt, address) {
+        Ok(stream) => work(rt, words, settings, &mut StdLink::new(&stream, &stream)),
+        Err(_) => 4,
+    }
 }
 
 fn main(rt: HostRuntime) -> ExitCode {
@@ -73,8 +120,8 @@ fn main(rt: HostRuntime) -> ExitCode {
         Asked::Help => print!(rt; "{USAGE}").map_or(5, |()| 0),
         Asked::Version => print!(rt; "{VERSION}").map_or(5, |()| 0),
         Asked::Work => match File::open(&rt, SETTINGS) {
-            Ok(file) => work(&rt, &words, file),
-            Err(_) => work(&rt, &words, io::empty()),
+            Ok(file) => connect_and_work(&rt, &words, file),
+            Err(_) => connect_and_work(&rt, &words, io::empty()),
         },
     };
     if status != 0 {

@@ -1,6 +1,7 @@
 // What the program does by its words, and what it prints for a status.
 ghost use Rattle.std.specs.Prelude.{◌≡◌, ◌↔◌, [], ◌∷◌, IsTrue, codes, map, string_bytes};
-ghost use Rattle.lti_cmd.specs.Words.{IsAsked, table, text_in};
+ghost use Rattle.std.specs.Option.{option_map};
+ghost use Rattle.lti_cmd.specs.Words.{IsAsked, address_in, table, text_in};
 
 /// What the words ask of the program.
 #[derive(Clone, Copy, Debug, PartialEq, Eq)]
@@ -48,6 +49,16 @@ fn is_version(word: &str) -> bool
     word == "--version"
 }
 
+/// The address to connect to: the second word of `passback`; `None` for all other words, which need no connection.
+pub fn address_of(words: &[String]) -> Option<&str>
+    ensures { option_map (λ address. address.now) result.entry ≡ address_in (map string_bytes words.now) }
+{
+    match words {
+        [name, address, ..] if name.as_str() == "passback" => Some(address.as_str()),
+        _ => None,
+    }
+}
+
 /// What is printed on standard error for a status that isn't 0.
 pub fn text_of(status: u8) -> &'static str
     ensures { result.now ≡ text_in table status }
@@ -59,7 +70,12 @@ pub fn text_of(status: u8) -> &'static str
         5 => "write fault",
         8 => "want of memory",
         9 => "cut short",
+        11 => "already issued",
         14 => "refused message",
+        15 => "not a success",
+        16 => "no such placement",
+        17 => "unknown key",
+        18 => "not issued",
         _ => "unknown status",
     }
 }

@@ -9,3 +9,6 @@ pub mod RenderLemmas
 pub mod SettingsLemmas
 pub mod CutLemmas
 pub mod BeforeLemmas
+pub mod MadeLemmas
+pub mod ReportLemmas
+pub mod DoneLemmas

@@ -1,5 +1,6 @@
--- Five words.
-use Rattle.std.proofs.Common.{◌≡◌, ◌↔◌, Bool, IsTrue, ℕ, suc, ◌<◌, ◌≤◌, ◌^◌, String, List, [], ◌∷◌, length, get_or, refl, sym, ap, ◌∙◌, subst, ⊎_elim, arith, Result, Option, Some, None, IfOk, MatchOption}
+-- The words of commands.
+use Rattle.std.proofs.Common.{◌≡◌, ◌↔◌, Bool, IsTrue, ℕ, suc, ◌<◌, ◌≤◌, ◌+◌, ◌^◌, codes, String, List, [], ◌∷◌, length, get_or, refl, sym, ap, ◌∙◌, subst, ⊎_elim, arith, Some, None}
+use Rattle.std.proofs.Math.Nat.{eq_of_mul-eq-mul_right}
 use Rattle.std.specs.Str.Parse.{digits_value}
 use Rattle.std.proofs.lemmas.Bool.{cond-true, cond-false, cases_Bool}
 use Rattle.std.proofs.lemmas.List.{take_all}
@@ -7,9 +8,21 @@ use Rattle.lti_outside.specs.Decimal.{is_decimal, decimal_of}
 use Rattle.lti_outside.proofs.DigitLemmas.{digits_small, decimal_parts}
 use Rattle.oauth_text.specs.Form.{IsForm}
 use Rattle.oauth_text.specs.Url.{UrlParts}
-use Rattle.lti_server.specs.Command.{CheckCommand, IsCheck, IsCheckWords, IsNoCheck, IsInRange, texts}
-use Rattle.lti_server.specs.CommandView.{command_of}
-use Rattle.lti_server.specs.declared.command.Check.{Check}
+use Rattle.score_decimal.specs.Written.{IsWritten, fraction_of}
+use Rattle.score_decimal.proofs.FractionLemmas.{ten_pos}
+use Rattle.lti_server.specs.Command.{CheckCommand, IsCheck, IsInRange, IsAnswer, IssueCommand, IsIssue, LaunchCommand, IsLaunch, PassbackCommand, IsPassback, GradesCommand, IsGrades, rounding_word, texts}
+use Rattle.lti_server.specs.CommandRanges.{IsIssueInRange, IsLaunchInRange, IsPassbackInRange, IsGradesInRange, kind_number}
+use Rattle.lti_server.specs.declared.command.Rounding.{Rounding}
+use Rattle.lti_server.specs.declared.command.Rounding.TheVariants.{Floor, Nearest, Ceiling}
+
+pub three : {X : Type 0} (ws : List X) (a b c : X) → length ws ≡ 3
+    → a ≡ get_or ws 0 a → b ≡ get_or ws 1 b → c ≡ get_or ws 2 c
+    → ws ≡ a ∷ b ∷ c ∷ []
+three [] a b c len a_is b_is c_is = absurd (cc)
+three (p ∷ []) a b c len a_is b_is c_is = absurd (cc)
+three (p ∷ q ∷ []) a b c len a_is b_is c_is = absurd (cc)
+three (p ∷ q ∷ r ∷ []) a b c len a_is b_is c_is = cc
+three (p ∷ q ∷ r ∷ w ∷ ws) a b c len a_is b_is c_is = absurd (cc)
 
 pub five : {X : Type 0} (ws : List X) (a b c d e : X) → length ws ≡ 5
     → a ≡ get_or ws 0 a → b ≡ get_or ws 1 b → c ≡ get_or ws 2 c → d ≡ get_or ws 3 d → e ≡ get_or ws 4 e
@@ -22,6 +35,31 @@ five (v ∷ w ∷ x ∷ y ∷ []) a b c d e len av bw cx dy ez = absurd (cc)
 five (v ∷ w ∷ x ∷ y ∷ z ∷ []) a b c d e len av bw cx dy ez = cc
 five (v ∷ w ∷ x ∷ y ∷ z ∷ u ∷ us) a b c d e len av bw cx dy ez = absurd (cc)
 
+pub six : {X : Type 0} (ws : List X) (a c d e f : X) → length ws ≡ 6
+    → a ≡ get_or ws 0 a → c ≡ get_or ws 2 c → d ≡ get_or ws 3 d → e ≡ get_or ws 4 e → f ≡ get_or ws 5 f
+    → ws ≡ a ∷ get_or ws 1 a ∷ c ∷ d ∷ e ∷ f ∷ []
+six [] a c d e f len a_is c_is d_is e_is f_is = absurd (cc)
+six (p ∷ []) a c d e f len a_is c_is d_is e_is f_is = absurd (cc)
+six (p ∷ q ∷ []) a c d e f len a_is c_is d_is e_is f_is = absurd (cc)
+six (p ∷ q ∷ r ∷ []) a c d e f len a_is c_is d_is e_is f_is = absurd (cc)
+six (p ∷ q ∷ r ∷ s ∷ []) a c d e f len a_is c_is d_is e_is f_is = absurd (cc)
+six (p ∷ q ∷ r ∷ s ∷ t ∷ []) a c d e f len a_is c_is d_is e_is f_is = absurd (cc)
+six (p ∷ q ∷ r ∷ s ∷ t ∷ u ∷ []) a c d e f len a_is c_is d_is e_is f_is = cc
+six (p ∷ q ∷ r ∷ s ∷ t ∷ u ∷ w ∷ ws) a c d e f len a_is c_is d_is e_is f_is = absurd (cc)
+
+pub seven : {X : Type 0} (ws : List X) (a b c d e f g : X) → length ws ≡ 7
+    → a ≡ get_or ws 0 a → b ≡ get_or ws 1 b → c ≡ get_or ws 2 c → d ≡ get_or ws 3 d → e ≡ get_or ws 4 e → f ≡ get_or ws 5 f → g ≡ get_or ws 6 g
+    → ws ≡ a ∷ b ∷ c ∷ d ∷ e ∷ f ∷ g ∷ []
+seven [] a b c d e f g len a_is b_is c_is d_is e_is f_is g_is = absurd (cc)
+seven (p ∷ []) a b c d e f g len a_is b_is c_is d_is e_is f_is g_is = absurd (cc)
+seven (p ∷ q ∷ []) a b c d e f g len a_is b_is c_is d_is e_is f_is g_is = absurd (cc)
+seven (p ∷ q ∷ r ∷ []) a b c d e f g len a_is b_is c_is d_is e_is f_is g_is = absurd (cc)
+seven (p ∷ q ∷ r ∷ s ∷ []) a b c d e f g len a_is b_is c_is d_is e_is f_is g_is = absurd (cc)
+seven (p ∷ q ∷ r ∷ s ∷ t ∷ []) a b c d e f g len a_is b_is c_is d_is e_is f_is g_is = absurd (cc)
+seven (p ∷ q ∷ r ∷ s ∷ t ∷ u ∷ []) a b c d e f g len a_is b_is c_is d_is e_is f_is g_is = absurd (cc)
+seven (p ∷ q ∷ r ∷ s ∷ t ∷ u ∷ v ∷ []) a b c d e f g len a_is b_is c_is d_is e_is f_is g_is = cc
+seven (p ∷ q ∷ r ∷ s ∷ t ∷ u ∷ v ∷ w ∷ ws) a b c d e f g len a_is b_is c_is d_is e_is f_is g_is = absurd (cc)
+
 pub one : {X : Type 0} (ws : List X) (a : X) → length ws ≡ 1 → a ≡ get_or ws 0 a → ws ≡ a ∷ []
 one [] a len av = absurd (cc)
 one (v ∷ []) a len av = cc
@@ -31,21 +69,49 @@ one (v ∷ w ∷ ws) a len av = absurd (cc)
 pub one_text : (same : Bool) (a b : List ℕ) → IsTrue same ↔ (a ≡ b) → IsTrue same ↔ (a ∷ [] ≡ b ∷ [])
 one_text same a b are = (λ holds. ap (λ (x : List ℕ). x ∷ []) (are.0 holds), λ is. are.1 (cc))
 
-pub IsCheck-length : (ws : List (List ℕ)) (check : CheckCommand) → IsCheck ws check → length ws ≡ 5
-IsCheck-length [] check is = absurd is
-IsCheck-length (v ∷ []) check is = absurd is
-IsCheck-length (v ∷ w ∷ []) check is = absurd is
-IsCheck-length (v ∷ w ∷ x ∷ []) check is = absurd is
-IsCheck-length (v ∷ w ∷ x ∷ y ∷ []) check is = absurd is
-IsCheck-length (v ∷ w ∷ x ∷ y ∷ z ∷ []) check is = refl
-IsCheck-length (v ∷ w ∷ x ∷ y ∷ z ∷ u ∷ us) check is = absurd is
+pub IsCheck-length : (ws : List (List ℕ)) (asked : CheckCommand) → IsCheck ws asked → length ws ≡ 5
+IsCheck-length (name ∷ url ∷ key ∷ secret ∷ moment ∷ []) asked is = refl
+IsCheck-length _ asked is = absurd is
 
--- what five words ask is what the list of them asks
-pub read_five : {E : Type 0} (found : Result (Option Check) E) (ws : List (List ℕ)) (n u k s m : List ℕ) → ws ≡ n ∷ u ∷ k ∷ s ∷ m ∷ []
-    → IfOk found (λ f. MatchOption f ((check : CheckCommand) → IsCheckWords n u k s m check → ⊥) (λ c. IsCheckWords n u k s m (command_of c)))
-    → IfOk found (λ f. MatchOption f (IsNoCheck ws) (λ c. IsCheck ws (command_of c)))
-read_five found ws n u k s m is one =
-    subst (λ (ws : List (List ℕ)). IfOk found (λ f. MatchOption f (IsNoCheck ws) (λ c. IsCheck ws (command_of c)))) (sym is) one
+pub IsIssue-length : (ws : List (List ℕ)) (asked : IssueCommand) → IsIssue ws asked → length ws ≡ 3
+IsIssue-length (name ∷ key ∷ id ∷ []) asked is = refl
+IsIssue-length _ asked is = absurd is
+
+pub IsLaunch-length : (ws : List (List ℕ)) (asked : LaunchCommand) → IsLaunch ws asked → length ws ≡ 7
+IsLaunch-length (name ∷ url ∷ key ∷ link ∷ user ∷ id ∷ service ∷ []) asked is = refl
+IsLaunch-length _ asked is = absurd is
+
+pub IsPassback-length : (ws : List (List ℕ)) (asked : PassbackCommand) → IsPassback ws asked → length ws ≡ 6
+IsPassback-length (name ∷ address ∷ key ∷ link ∷ user ∷ score ∷ []) asked is = refl
+IsPassback-length _ asked is = absurd is
+
+pub IsGrades-length : (ws : List (List ℕ)) (asked : GradesCommand) → IsGrades ws asked → length ws ≡ 3
+IsGrades-length (name ∷ rounding ∷ most ∷ []) asked is = refl
+IsGrades-length _ asked is = absurd is
+
+-- which command words of some kind ask for
+pub IsAnswer-kind : (ws : List (List ℕ)) → IsAnswer ws → kind_number ws ≡ 7
+IsAnswer-kind ws is = ap kind_number is
+
+pub IsCheck-kind : (ws : List (List ℕ)) (asked : CheckCommand) → IsCheck ws asked → kind_number ws ≡ 10
+IsCheck-kind (name ∷ url ∷ key ∷ secret ∷ moment ∷ []) asked is = ap (λ (n : List ℕ). 5 + length n) is.named
+IsCheck-kind _ asked is = absurd is
+
+pub IsIssue-kind : (ws : List (List ℕ)) (asked : IssueCommand) → IsIssue ws asked → kind_number ws ≡ 8
+IsIssue-kind (name ∷ key ∷ id ∷ []) asked is = ap (λ (n : List ℕ). 3 + length n) is.named
+IsIssue-kind _ asked is = absurd is
+
+pub IsLaunch-kind : (ws : List (List ℕ)) (asked : LaunchCommand) → IsLaunch ws asked → kind_number ws ≡ 13
+IsLaunch-kind (name ∷ url ∷ key ∷ link ∷ user ∷ id ∷ service ∷ []) asked is = ap (λ (n : List ℕ). 7 + length n) is.named
+IsLaunch-kind _ asked is = absurd is
+
+pub IsPassback-kind : (ws : List (List ℕ)) (asked : PassbackCommand) → IsPassback ws asked → kind_number ws ≡ 14
+IsPassback-kind (name ∷ address ∷ key ∷ link ∷ user ∷ score ∷ []) asked is = ap (λ (n : List ℕ). 6 + length n) is.named
+IsPassback-kind _ asked is = absurd is
+
+pub IsGrades-kind : (ws : List (List ℕ)) (asked : GradesCommand) → IsGrades ws asked → kind_number ws ≡ 9
+IsGrades-kind (name ∷ rounding ∷ most ∷ []) asked is = ap (λ (n : List ℕ). 3 + length n) is.named
+IsGrades-kind _ asked is = absurd is
 
 pub texts-length : {A : Type 0} (ws : List (String A)) → length (texts ws) ≡ length ws
 texts-length [] = refl
@@ -86,3 +152,92 @@ IsCheck-once (name ∷ url ∷ key ∷ secret ∷ moment ∷ []) a b first secon
     let moments : a.moment ≡ b.moment = cc in
     λ i. record { url = urls i; key = keys i; secret = secrets i; moment = moments i }
 IsCheck-once _ a b first second = absurd first
+
+-- the words of `issue` ask one thing
+pub IsIssue-once : (ws : List (List ℕ)) (a b : IssueCommand) → IsIssue ws a → IsIssue ws b → a ≡ b
+IsIssue-once (name ∷ key ∷ id ∷ []) a b first second = first.issue_is ∙ sym second.issue_is
+IsIssue-once _ a b first second = absurd first
+
+abbrev launch_words : List ℕ → List ℕ → List ℕ → List ℕ → List ℕ → UrlParts → LaunchCommand
+launch_words key link user id service url = record { url = url; key = key; link = link; user = user; id = id; service = service }
+
+pub IsLaunch-once : (ws : List (List ℕ)) (a b : LaunchCommand) → IsLaunch ws a → IsLaunch ws b → a ≡ b
+IsLaunch-once (name ∷ url ∷ key ∷ link ∷ user ∷ id ∷ service ∷ []) a b first second =
+    let urls : first.parts ≡ second.parts = sym first.url_is.2 ∙ second.url_is.2 in
+    first.launch_is ∙ ap (launch_words key link user id service) urls ∙ sym second.launch_is
+IsLaunch-once _ a b first second = absurd first
+
+-- a text writes one number
+pub IsWritten-once : (text : List ℕ) (n m : ℕ) → IsWritten text n → IsWritten text m → n ≡ m
+IsWritten-once text n m is other =
+    let places : ℕ = length (fraction_of text) in
+    eq_of_mul-eq-mul_right (10 ^ places) (ten_pos places) n m (is.number ∙ sym other.number)
+
+abbrev passback_words : List ℕ → List ℕ → List ℕ → ℕ → PassbackCommand
+passback_words key link user score = record { key = key; link = link; user = user; score = score }
+
+pub IsPassback-once : (ws : List (List ℕ)) (a b : PassbackCommand) → IsPassback ws a → IsPassback ws b → a ≡ b
+IsPassback-once (name ∷ address ∷ key ∷ link ∷ user ∷ text ∷ []) a b first second =
+    let scores : first.score ≡ second.score = IsWritten-once text first.score second.score first.score_is second.score_is in
+    first.passback_is ∙ ap (passback_words key link user) scores ∙ sym second.passback_is
+IsPassback-once _ a b first second = absurd first
+
+-- no two roundings have one word
+floor_nearest : rounding_word Floor ≡ rounding_word Nearest → ⊥
+floor_nearest is = let letters : 102 ≡ 110 = ap (λ (t : List ℕ). get_or t 0 0) is in absurd (omega (arith, letters))
+
+floor_ceiling : rounding_word Floor ≡ rounding_word Ceiling → ⊥
+floor_ceiling is = let letters : 102 ≡ 99 = ap (λ (t : List ℕ). get_or t 0 0) is in absurd (omega (arith, letters))
+
+nearest_ceiling : rounding_word Nearest ≡ rounding_word Ceiling → ⊥
+nearest_ceiling is = let letters : 110 ≡ 99 = ap (λ (t : List ℕ). get_or t 0 0) is in absurd (omega (arith, letters))
+
+rounding_word-once : (a b : Rounding) → rounding_word a ≡ rounding_word b → a ≡ b
+rounding_word-once Floor Floor is = refl
+rounding_word-once Floor Nearest is = absurd (floor_nearest is)
+rounding_word-once Floor Ceiling is = absurd (floor_ceiling is)
+rounding_word-once Nearest Floor is = absurd (floor_nearest (sym is))
+rounding_word-once Nearest Nearest is = refl
+rounding_word-once Nearest Ceiling is = absurd (nearest_ceiling is)
+rounding_word-once Ceiling Floor is = absurd (floor_ceiling (sym is))
+rounding_word-once Ceiling Nearest is = absurd (nearest_ceiling (sym is))
+rounding_word-once Ceiling Ceiling is = refl
+
+-- a word of none of the three is none of them
+pub no_rounding : (word : List ℕ) → (word ≡ codes "floor" → ⊥) → (word ≡ codes "nearest" → ⊥) → (word ≡ codes "ceiling" → ⊥)
+    → (rounding : Rounding) → word ≡ rounding_word rounding → ⊥
+no_rounding word floor nearest ceiling Floor is = floor is
+no_rounding word floor nearest ceiling Nearest is = nearest is
+no_rounding word floor nearest ceiling Ceiling is = ceiling is
+
+pub IsGrades-once : (ws : List (List ℕ)) (a b : GradesCommand) → IsGrades ws a → IsGrades ws b → a ≡ b
+IsGrades-once (name ∷ rounding ∷ most ∷ []) a b first second =
+    let roundings : a.rounding ≡ b.rounding = rounding_word-once a.rounding b.rounding (sym first.rounding_is ∙ second.rounding_is) in
+    let some : Some a.most ≡ Some b.most = sym first.most_is ∙ second.most_is in
+    let mosts : a.most ≡ b.most = cc in
+    λ i. record { rounding = roundings i; most = mosts i }
+IsGrades-once _ a b first second = absurd first
+
+pub IsIssue-range : (ws : List (List ℕ)) (issue : IssueCommand) → IsIssue ws issue → IsIssueInRange issue
+IsIssue-range (name ∷ key ∷ id ∷ []) issue is = subst IsIssueInRange (sym is.issue_is) (record { key = is.key_fits; id = is.id_fits })
+IsIssue-range _ issue is = absurd is
+
+pub IsLaunch-range : (ws : List (List ℕ)) (launch : LaunchCommand) → IsLaunch ws launch → IsLaunchInRange launch
+IsLaunch-range (name ∷ url ∷ key ∷ link ∷ user ∷ id ∷ service ∷ []) launch is =
+    subst IsLaunchInRange (sym is.launch_is) (record {
+      query = subst IsForm (ap (λ (u : UrlParts). u.query) is.url_is.2) is.url_is.1;
+      key = is.key_fits;
+      link = is.link_fits;
+      user = is.user_fits;
+      id = is.id_fits;
+    })
+IsLaunch-range _ launch is = absurd is
+
+pub IsPassback-range : (ws : List (List ℕ)) (passback : PassbackCommand) → IsPassback ws passback → IsPassbackInRange passback
+IsPassback-range (name ∷ address ∷ key ∷ link ∷ user ∷ text ∷ []) passback is =
+    subst IsPassbackInRange (sym is.passback_is) (record { key = is.key_fits; link = is.link_fits; user = is.user_fits; score = is.score_is.range })
+IsPassback-range _ passback is = absurd is
+
+pub IsGrades-range : (ws : List (List ℕ)) (grades : GradesCommand) → IsGrades ws grades → IsGradesInRange grades
+IsGrades-range (name ∷ rounding ∷ most ∷ []) grades is = record { most_some = is.most_some; most_small = is.most_small }
+IsGrades-range _ grades is = absurd is

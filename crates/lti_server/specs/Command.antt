@@ -3,6 +3,9 @@ use Rattle.std.specs.Prelude.{◌≡◌, ◌≤◌, ℕ, List, [], ◌∷◌, le
 use Rattle.lti_outside.specs.Decimal.{decimal_of}
 use Rattle.oauth_text.specs.Form.{IsForm}
 use Rattle.oauth_text.specs.Url.{UrlParts, IsUrl}
+use Rattle.score_decimal.specs.Written.{IsWritten}
+use Rattle.lti_server.specs.declared.command.Rounding.{Rounding}
+use Rattle.lti_server.specs.declared.command.Rounding.TheVariants.{Floor, Nearest, Ceiling}
 
 -- what `check` is asked
 pub record CheckCommand : Type 0 where
@@ -11,8 +14,42 @@ pub record CheckCommand : Type 0 where
   pub secret : List ℕ
   pub moment : ℕ
 
+-- which id is to be issued, under which key
+pub record IssueCommand : Type 0 where
+  pub key : List ℕ
+  pub id : List ℕ
+
+-- which launch is to be printed as a form
+pub record LaunchCommand : Type 0 where
+  pub url : UrlParts
+  pub key : List ℕ
+  pub link : List ℕ
+  pub user : List ℕ
+  pub id : List ℕ
+  pub service : List ℕ
+
+-- which score is to be sent, for which user of which link
+pub record PassbackCommand : Type 0 where
+  pub key : List ℕ
+  pub link : List ℕ
+  pub user : List ℕ
+  pub score : ℕ
+
+-- how the grades are to be told
+pub record GradesCommand : Type 0 where
+  pub rounding : Rounding
+  pub most : ℕ
+
 abbrev pub texts : {A : Type 0} → List (String A) → List (List ℕ)
 texts words = map string_bytes words
+
+-- 1 to 255 bytes
+abbrev pub IsKey : List ℕ → Type 0
+IsKey text = (1 ≤ length text) × (length text ≤ 255)
+
+-- 1 to 1023 bytes
+abbrev pub IsName : List ℕ → Type 0
+IsName text = (1 ≤ length text) × (length text ≤ 1023)
 
 -- `check URL KEY SECRET MOMENT`: a key of 1 to 255 bytes, and a moment of 1 to 15 digits
 pub record IsCheckWords (name url key secret moment : List ℕ) (check : CheckCommand) : Type 0 where
@@ -37,10 +74,85 @@ IsNoCheck words = (check : CheckCommand) → IsCheck words check → ⊥
 abbrev pub IsAnswer : List (List ℕ) → Type 0
 IsAnswer words = words ≡ codes "answer" ∷ []
 
+-- `issue KEY ID`: a key of 1 to 255 bytes, and an id of 1 to 1023 bytes
+pub record IsIssueWords (name key id : List ℕ) (issue : IssueCommand) : Type 0 where
+  pub named : name ≡ codes "issue"
+  pub issue_is : issue ≡ record { key = key; id = id }
+  pub key_fits : IsKey key
+  pub id_fits : IsName id
+
+abbrev pub IsIssue : List (List ℕ) → IssueCommand → Type 0
+IsIssue (name ∷ key ∷ id ∷ []) issue = IsIssueWords name key id issue
+IsIssue _ issue = ⊥
+
+-- `launch URL KEY LINK USER ID SERVICE`: a key of 1 to 255 bytes, and a link, a user and an id of 1 to 1023 bytes
+pub record IsLaunchWords (name url key link user id service : List ℕ) (launch : LaunchCommand) : Type 0 where
+  pub named : name ≡ codes "launch"
+  pub parts : UrlParts
+  pub url_is : IsUrl url parts
+  pub launch_is : launch ≡ record { url = parts; key = key; link = link; user = user; id = id; service = service }
+  pub key_fits : IsKey key
+  pub link_fits : IsName link
+  pub user_fits : IsName user
+  pub id_fits : IsName id
+
+abbrev pub IsLaunch : List (List ℕ) → LaunchCommand → Type 0
+IsLaunch (name ∷ url ∷ key ∷ link ∷ user ∷ id ∷ service ∷ []) launch = IsLaunchWords name url key link user id service launch
+IsLaunch _ launch = ⊥
+
+-- `passback ADDRESS KEY LINK USER SCORE`: a key of 1 to 255 bytes, a link and a user of 1 to 1023 bytes, and a score; the
+-- address is for whoever connects
+pub record IsPassbackWords (name key link user text : List ℕ) (passback : PassbackCommand) : Type 0 where
+  pub named : name ≡ codes "passback"
+  pub score : ℕ
+  pub score_is : IsWritten text score
+  pub passback_is : passback ≡ record { key = key; link = link; user = user; score = score }
+  pub key_fits : IsKey key
+  pub link_fits : IsName link
+  pub user_fits : IsName user
+
+abbrev pub IsPassback : List (List ℕ) → PassbackCommand → Type 0
+IsPassback (name ∷ address ∷ key ∷ link ∷ user ∷ score ∷ []) passback = IsPassbackWords name key link user score passback
+IsPassback _ passback = ⊥
+
+-- the word of a rounding
+abbrev pub rounding_word : Rounding → List ℕ
+rounding_word Floor = codes "floor"
+rounding_word Nearest = codes "nearest"
+rounding_word Ceiling = codes "ceiling"
+
+-- `grades SCALE MAX`: a rounding, and 1 to 7 digits from 1 to 1,000,000
+pub record IsGradesWords (name rounding most : List ℕ) (grades : GradesCommand) : Type 0 where
+  pub named : name ≡ codes "grades"
+  pub rounding_is : rounding ≡ rounding_word grades.rounding
+  pub most_is : decimal_of 7 most ≡ Some grades.most
+  pub most_some : 1 ≤ grades.most
+  pub most_small : grades.most ≤ 1000000
+
+abbrev pub IsGrades : List (List ℕ) → GradesCommand → Type 0
+IsGrades (name ∷ rounding ∷ most ∷ []) grades = IsGradesWords name rounding most grades
+IsGrades _ grades = ⊥
+
 -- the words are no command
 pub record IsUsage (words : List (List ℕ)) : Type 0 where
   pub no_check : IsNoCheck words
   pub no_answer : IsAnswer words → ⊥
+  pub no_issue : (issue : IssueCommand) → IsIssue words issue → ⊥
+  pub no_launch : (launch : LaunchCommand) → IsLaunch words launch → ⊥
+  pub no_passback : (passback : PassbackCommand) → IsPassback words passback → ⊥
+  pub no_grades : (grades : GradesCommand) → IsGrades words grades → ⊥
+
+-- the words ask for no command that needs settings
+pub record UsesNoSettings (words : List (List ℕ)) : Type 0 where
+  pub no_answer : IsAnswer words → ⊥
+  pub no_issue : (issue : IssueCommand) → IsIssue words issue → ⊥
+  pub no_launch : (launch : LaunchCommand) → IsLaunch words launch → ⊥
+  pub no_passback : (passback : PassbackCommand) → IsPassback words passback → ⊥
+
+-- the words ask for nothing that this end signs
+pub record SignsNothing (words : List (List ℕ)) : Type 0 where
+  pub no_launch : (launch : LaunchCommand) → IsLaunch words launch → ⊥
+  pub no_passback : (passback : PassbackCommand) → IsPassback words passback → ⊥
 
 -- the parts of a command are in their ranges
 pub record IsInRange (check : CheckCommand) : Type 0 where

@@ -1,6 +1,7 @@
 pub mod Lines
 pub mod Command
 pub mod CommandView
+pub mod CommandRanges
 pub mod Checked
 pub mod CheckerView
 pub mod Verdicts
@@ -20,3 +21,11 @@ pub mod SettingsView
 pub mod SettingsRead
 pub mod Answering
 pub mod Laws
+pub mod Shortfall
+pub mod Made
+pub mod Launching
+pub mod Passing
+pub mod Issuing
+pub mod Report
+pub mod ReportLaw
+pub mod Done

@@ -20,7 +20,12 @@ const ACCEPTED_AND_USED: &str =
     "HTTP/1.1 200 OK\r\nContent-Type: text/plain; charset=utf-8\r\nContent-Length: 9\r\nConnection: keep-alive\r\n\r\nlaunched\nHTTP/1.1 401 Unauthorized\r\nContent-Type: text/plain; charset=utf-8\r\nContent-Length: 19\r\nWWW-Authenticate: OAuth\r\nConnection: keep-alive\r\n\r\nnonce already used\n";
 
 // A source that gives the text in pieces of this size, and whose calls of these numbers fail.
-fn source(alloc: Global, text: &[u8], size: usize, failing: &[u64]) -> Result<MemorySource, Fail> {
+pub(crate) fn source(
+    alloc: Global,
+    text: &[u8],
+    size: usize,
+    failing: &[u64],
+) -> Result<MemorySource, Fail> {
     let mut pieces = Vec::new(alloc);
     for piece in text.chunks(size.max(1)) {
         let mut bytes = Bytes::new(alloc);
@@ -31,7 +36,7 @@ fn source(alloc: Global, text: &[u8], size: usize, failing: &[u64]) -> Result<Me
 }
 
 // A link that gives the text in pieces of this size, and whose calls of these numbers fail.
-fn link(
+pub(crate) fn link(
     alloc: Global,
     text: &[u8],
     size: usize,
@@ -60,6 +65,7 @@ fn answered(
         ends,
         &FixedClock::new(1_400_000_000),
         &mut ListRandom::new(Vec::new(alloc)),
+        &crate::tests::scales(alloc)?,
         limits,
     ))
 }

@@ -1,10 +1,14 @@
-// The words of the command line.
-ghost use Rattle.std.specs.Prelude.{◌≡◌, ◌↔◌, codes, IsTrue, IfOk, MatchOption};
-ghost use Rattle.lti_server.specs.Command.{CheckCommand, IsAnswer, IsCheck, IsCheckWords, IsNoCheck, texts};
-ghost use Rattle.lti_server.specs.CommandView.{command_of};
+// What the words of the command line ask.
+ghost use Rattle.std.specs.Prelude.{IfOk, MatchOption};
+ghost use Rattle.lti_server.specs.Command.{IsUsage, texts};
+ghost use Rattle.lti_server.specs.CommandView.{IsCommand};
 
-use lti_outside::{NoMemory, read_decimal};
-use oauth_text::{Url, UrlFault};
+use crate::command_words::{is_answer, read_check, read_grades, read_issue};
+use crate::words_of_launch::read_launch;
+use crate::words_of_passback::read_passback;
+use lti_outside::NoMemory;
+use oauth_text::Url;
+use score_decimal::Score;
 use std::alloc::Global;
 
 /// What `check` is asked: the verdicts of forms posted to `url` under one key, at one moment.
@@ -17,78 +21,93 @@ pub struct Check<'a> {
     pub moment: u64,
 }
 
-fn is_check(name: &str) -> bool
-    ensures { IsTrue result ↔ (name.now ≡ codes "check") }
-{
-    name == "check"
+/// What `issue` is asked: the sourcedId `id` to be issued under the consumer key `key`.
+#[derive(Clone, Copy)]
+pub struct Issue<'a> {
+    /// 1 to 255 bytes.
+    pub key: &'a str,
+    /// 1 to 1023 bytes.
+    pub id: &'a str,
 }
 
-// What these words ask of `check`.
-fn check_of<'a>(
-    alloc: Global,
-    name: &str,
-    url: &str,
-    key: &'a str,
-    secret: &'a str,
-    moment: &str,
-) -> Result<Option<Check<'a>>, NoMemory>
-    ensures { IfOk result (λ found. MatchOption found
-        ((check : CheckCommand) → IsCheckWords name.now url.now key.now secret.now moment.now check → ⊥)
-        (λ check. IsCheckWords name.now url.now key.now secret.now moment.now (command_of check))) }
-{
-    if !is_check(name) {
-        return Ok(None);
-    }
-    if key.is_empty() {
-        return Ok(None);
-    }
-    if key.len() > 255 {
-        return Ok(None);
-    }
-    let Some(moment) = read_decimal(moment.as_bytes(), 15) else {
-        return Ok(None);
-    };
-    match Url::read(alloc, url) {
-        Ok(url) => Ok(Some(Check {
-            url,
-            key,
-            secret,
-            moment,
-        })),
-        Err(UrlFault::BadUrl) => Ok(None),
-        Err(UrlFault::NoMemory) => Err(NoMemory),
-    }
+/// What `launch` is asked: a launch of the resource link `link` by `user`, to be printed as a form that is
+/// posted to `url`.
+#[derive(Drop)]
+pub struct LaunchForm<'a> {
+    pub url: Url,
+    /// The consumer key, 1 to 255 bytes.
+    pub key: &'a str,
+    /// 1 to 1023 bytes, as are the user and the sourcedId.
+    pub link: &'a str,
+    pub user: &'a str,
+    /// The sourcedId of this user's outcome.
+    pub id: &'a str,
+    /// The address of the Basic Outcomes service (LTI 1.1.1).
+    pub service: &'a str,
 }
 
-/// What the words ask of `check`, or none where they don't ask for it.
-pub fn read_check(alloc: Global, words: &[String]) -> Result<Option<Check<'_>>, NoMemory>
-    ensures { IfOk result (λ found. MatchOption found (IsNoCheck (texts words.now)) (λ check. IsCheck (texts words.now) (command_of check))) }
-{
-    if words.len() != 5 {
-        return Ok(None);
-    }
-    check_of(
-        alloc,
-        words[0].as_str(),
-        words[1].as_str(),
-        words[2].as_str(),
-        words[3].as_str(),
-        words[4].as_str(),
-    )
+/// What `passback` is asked: a score to be sent for one user of one link.
+#[derive(Clone, Copy)]
+pub struct Passback<'a> {
+    /// The consumer key, 1 to 255 bytes.
+    pub key: &'a str,
+    /// 1 to 1023 bytes, as is the user.
+    pub link: &'a str,
+    pub user: &'a str,
+    pub score: Score,
 }
 
-fn is_answer_word(name: &str) -> bool
-    ensures { IsTrue result ↔ (name.now ≡ codes "answer") }
-{
-    name == "answer"
+/// How a score becomes points: the next whole number below, the nearest, or the next above.
+#[derive(Clone, Copy, Debug, PartialEq, Eq)]
+pub enum Rounding {
+    Floor,
+    Nearest,
+    Ceiling,
 }
 
-/// Whether the words ask for `answer`.
-pub fn is_answer(words: &[String]) -> bool
-    ensures { IsTrue result ↔ IsAnswer (texts words.now) }
+/// What `grades` is asked: how grades are told.
+#[derive(Clone, Copy)]
+pub struct Grades {
+    pub rounding: Rounding,
+    /// The points of a full score, 1 to 1,000,000.
+    pub most: u32,
+}
+
+/// What the words ask.
+#[derive(Drop)]
+pub enum Command<'a> {
+    Check(Check<'a>),
+    Answer,
+    Issue(Issue<'a>),
+    Launch(LaunchForm<'a>),
+    Passback(Passback<'a>),
+    Grades(Grades),
+}
+
+/// The command that the words ask for, or none where they are no command: another name, another number of words, or
+/// a word out of its range. Words behind the name stand in the order `check URL KEY SECRET MOMENT`, `issue KEY ID`,
+/// `launch URL KEY LINK USER ID SERVICE`, `passback ADDRESS KEY LINK USER SCORE` and `grades SCALE MAX`; `answer`
+/// stands alone. Memory is taken for a URL alone.
+pub fn read_command(alloc: Global, words: &[String]) -> Result<Option<Command<'_>>, NoMemory>
+    ensures { IfOk result (λ found. MatchOption found (IsUsage (texts words.now)) (λ command. IsCommand (texts words.now) command)) }
 {
-    match words {
-        [word] => is_answer_word(word.as_str()),
-        _ => false,
+    if is_answer(words) {
+        return Ok(Some(Command::Answer));
     }
+    if let Some(issue) = read_issue(words) {
+        return Ok(Some(Command::Issue(issue)));
+    }
+    if let Some(grades) = read_grades(words) {
+        return Ok(Some(Command::Grades(grades)));
+    }
+    if let Some(passback) = read_passback(words) {
+        return Ok(Some(Command::Passback(passback)));
+    }
+    if let Some(launch) = read_launch(alloc, words)? {
+        return Ok(Some(Command::Launch(launch)));
+    }
+    if let Some(check) = read_check(alloc, words)? {
+        return Ok(Some(Command::Check(check)));
+    }
+    Ok(None)
 }

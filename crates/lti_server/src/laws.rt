@@ -1,8 +1,15 @@
-// Laws over whole connections.
+// Laws over whole connections, and over reports.
 ghost use Rattle.lti_server.specs.Laws.{CutsDoNotMatter};
+ghost use Rattle.lti_server.specs.ReportLaw.{TotalIsNear};
 
 /// Two connections that give the same bytes, in whatever pieces, with the same replies of the machine, are answered by the
 /// same bytes and end alike.
 pub fn cuts_do_not_matter()
     ensures { CutsDoNotMatter }
+{}
+
+/// The total of a report is less than the number of grades away from the exact sum of the shares, and 0 where there is no
+/// grade.
+pub fn total_is_near()
+    ensures { TotalIsNear }
 {}

@@ -20,30 +20,50 @@ mod answering;
 mod asking;
 mod asks;
 mod before;
+mod books;
 mod check;
 mod checker;
 mod command;
+#[cfg(test)]
+mod command_tests;
+mod command_words;
+#[cfg(test)]
+mod grade_tests;
+mod grading;
+mod issuing;
+mod launching;
 mod laws;
+mod making;
 #[cfg(test)]
 mod outcome_tests;
+mod over_settings;
+mod passing;
 mod pending;
 mod refusals;
 mod rendering;
+mod reports;
 mod routes;
+mod scales;
 mod session_end;
 mod sessions;
 mod settings;
 mod settings_source;
+mod shortfall;
 mod stop;
 #[cfg(test)]
 mod tests;
 mod top;
 mod verdict;
 mod wire_faults;
+mod words_of_launch;
+mod words_of_passback;
 
 pub use asking::Session;
 pub use asks::Ask;
-pub use laws::cuts_do_not_matter;
+pub use books::book_of;
+pub use laws::{cuts_do_not_matter, total_is_near};
+pub use reports::{ReportFault, report};
+pub use scales::Scales;
 pub use session_end::SessionEnd;
 pub use sessions::session;
 pub use settings::{Settings, SettingsFault};

@@ -1,6 +1,7 @@
 //! `run` with `check`, over links in memory. The signatures were made with Python's hmac.
 use super::*;
 use lti_outside::{Bytes, FixedClock, Limits, ListRandom, MemoryLink, MemorySink, MemorySource};
+use score_decimal::{Scale, ceiling_points, floor_points, nearest_points};
 use std::alloc::Global;
 use std::process::Abort;
 use std::test::Fail;
@@ -46,12 +47,21 @@ fn link(
     Ok(MemoryLink::new(source, MemorySink::new(alloc, writes.to_vec(alloc)?)))
 }
 
-fn words(alloc: Global, all: &[&str]) -> Result<Vec<String>, Fail> {
+pub(crate) fn words(alloc: Global, all: &[&str]) -> Result<Vec<String>, Fail> {
     let mut words = Vec::new(alloc);
     for word in all {
         words.push(String::from_str(alloc, *word)?)?;
     }
     Ok(words)
+}
+
+// The three scales of the program.
+pub(crate) fn scales(alloc: Global) -> Result<Scales, Fail> {
+    Ok(Scales {
+        floor: Scale::new(Box::new(alloc, floor_points)?),
+        nearest: Scale::new(Box::new(alloc, nearest_points)?),
+        ceiling: Scale::new(Box::new(alloc, ceiling_points)?),
+    })
 }
 
 // The status of a run that needs neither settings nor a clock.
@@ -61,17 +71,18 @@ fn run_words(
     asked: &[String],
     ends: &mut MemoryLink,
     limits: &Limits,
-) -> u8 {
+) -> Result<u8, Fail> {
     assert!(rt; limits.sound());
-    run(
+    Ok(run(
         alloc,
         asked,
         &mut MemorySource::new(Vec::new(alloc), Vec::new(alloc)),
         ends,
         &FixedClock::new(0),
         &mut ListRandom::new(Vec::new(alloc)),
+        &scales(alloc)?,
         limits,
-    )
+    ))
 }
 
 fn check_words(alloc: Global, url: &str) -> Result<Vec<String>, Fail> {
@@ -87,7 +98,7 @@ fn verdicts_in_any_pieces(rt: HostRuntime) -> Result<(), Fail> {
     let want = "bad form\naccepted\nused\nbad form\nbad signature\n";
     for size in [1, 2, 7, 150, 100_000] {
         let mut ends = link(alloc, text.as_bytes(), size, &[], &[])?;
-        let status = run_words(&rt, alloc, &asked, &mut ends, &Limits::usual());
+        let status = run_words(&rt, alloc, &asked, &mut ends, &Limits::usual())?;
         assert_eq!(rt; status, 0, "at {size}");
         assert_eq!(rt; ends.given(), want.as_bytes(), "at {size}");
     }
@@ -148,7 +159,7 @@ fn faults_of_a_form(rt: HostRuntime) -> Result<(), Fail> {
     for (line, want) in &cases {
         let mut ends = link(alloc, line.as_bytes(), 64, &[], &[])?;
         assert_eq!(rt;
-            run_words(&rt, alloc, &asked, &mut ends, &Limits::usual()),
+            run_words(&rt, alloc, &asked, &mut ends, &Limits::usual())?,
             0
         );
         assert_eq!(rt; ends.given(), want.as_bytes(), "at {line}");
@@ -164,7 +175,7 @@ fn parameters_of_the_query_are_signed(rt: HostRuntime) -> Result<(), Fail> {
         "a=1&oauth_consumer_key=12345&oauth_signature_method=HMAC-SHA1&oauth_timestamp=1400000000&oauth_nonce=n1&oauth_signature=4BPPMH2g3pF4H0%2BPh01xVulC1zE%3D";
     let mut ends = link(alloc, line.as_bytes(), 64, &[], &[])?;
     assert_eq!(rt;
-        run_words(&rt, alloc, &asked, &mut ends, &Limits::usual()),
+        run_words(&rt, alloc, &asked, &mut ends, &Limits::usual())?,
         0
     );
     assert_eq!(rt; ends.given(), b"accepted\n".as_slice());
@@ -193,7 +204,7 @@ fn how_a_run_ends(rt: HostRuntime) -> Result<(), Fail> {
     ];
     for (text, reads, writes, want, given) in cases {
         let mut ends = link(alloc, text, 3, reads, writes)?;
-        let status = run_words(&rt, alloc, &asked, &mut ends, &small);
+        let status = run_words(&rt, alloc, &asked, &mut ends, &small)?;
         assert_eq!(rt; status, want, "at {text:?}");
         assert_eq!(rt; ends.given(), given, "at {text:?}");
     }
@@ -211,7 +222,7 @@ fn a_full_window(rt: HostRuntime) -> Result<(), Fail> {
     let three = third(alloc)?;
     let text = format!(in alloc; "{one}\n{two}\n{three}\n{one}\n")?;
     let mut ends = link(alloc, text.as_bytes(), 4_096, &[], &[])?;
-    assert_eq!(rt; run_words(&rt, alloc, &asked, &mut ends, &narrow), 0);
+    assert_eq!(rt; run_words(&rt, alloc, &asked, &mut ends, &narrow)?, 0);
     assert_eq!(rt;
         ends.given(),
         b"accepted\naccepted\nwindow full\nused\n".as_slice()
@@ -246,7 +257,7 @@ fn other_words_are_usage(rt: HostRuntime) -> Result<(), Fail> {
         let asked = words(alloc, case)?;
         let mut ends = link(alloc, b"a=%FF\n", 3, &[], &[])?;
         assert_eq!(rt;
-            run_words(&rt, alloc, &asked, &mut ends, &Limits::usual()),
+            run_words(&rt, alloc, &asked, &mut ends, &Limits::usual())?,
             2,
             "at {case:?}"
         );

@@ -1,26 +1,41 @@
-use Rattle.std.proofs.Common.{refl, subst, Ok, Err}
-use Rattle.lti_server.specs.Command.{CheckCommand, texts}
-use Rattle.lti_server.specs.CommandView.{command_of}
-use Rattle.lti_server.specs.Ending.{EndsWith}
-use Rattle.lti_server.specs.declared.stop.Stop.TheVariants.{NoMemory}
-use Rattle.lti_server.proofs.WordLemmas.{IsCheck-range, IsCheck-once}
-use Rattle.lti_server.proofs.TurnLemmas.{run_none}
+use Rattle.lti_server.proofs.DoneLemmas as done
 use Rattle.lti_server.proofs.top.run.Goals as goal
 
-pub returns-in-Err-clause-check : goal.returns-in-Err-clause-check
-returns-in-Err-clause-check g c = λ command is. record { end = Err NoMemory; status_is = refl; checks = run_none command c.args.limits.now _ }
+pub returns-clause-usage : goal.returns-clause-usage
+returns-clause-usage g c = done.tells_usage _ _ _ _ _ _ c.perform.ensures
 
-pub check_lines-requires-clause-range : goal.check_lines-requires-clause-range
-check_lines-requires-clause-range g c = IsCheck-range (texts c.args.words.now) (command_of c.in-Ok-Some.check) (rw c.in-Ok-Some.field-0-is at c.in-Ok-Some.ensures)
+pub returns-clause-no_command : goal.returns-clause-no_command
+returns-clause-no_command g c = λ u. (done.usage_status _ _ _ _ _ _ c.perform.ensures u).0
 
-pub returns-in-Ok-clause-check : goal.returns-in-Ok-clause-check
-returns-in-Ok-clause-check g c = λ command is.
-    let same = IsCheck-once (texts c.args.words.now) (command_of c.in-Ok-Some.check) command (rw c.in-Ok-Some.field-0-is at c.in-Ok-Some.ensures) is in
-    subst (λ (x : CheckCommand). EndsWith x c.args.limits.now (g.I.Outside.traffic c.args.ends.now) (g.I.Outside.traffic c.check_lines.new.ends) 0) same
-    (record { end = Ok tt; status_is = refl; checks = c.in-Ok.ensures })
+pub returns-clause-untouched : goal.returns-clause-untouched
+returns-clause-untouched g c = λ u. (done.usage_status _ _ _ _ _ _ c.perform.ensures u).1
+
+pub returns-clause-settings : goal.returns-clause-settings
+returns-clause-settings g c = done.settings_stay _ _ _ _ _ _ c.perform.ensures
+
+pub returns-clause-random : goal.returns-clause-random
+returns-clause-random g c = done.random_stays _ _ _ _ _ _ c.perform.ensures
+
+pub returns-clause-read : goal.returns-clause-read
+returns-clause-read g c = done.read_rose _ _ _ _ _ _ c.perform.ensures
+
+pub returns-clause-write : goal.returns-clause-write
+returns-clause-write g c = done.write_rose _ _ _ _ _ _ c.perform.ensures
 
 pub returns-clause-check : goal.returns-clause-check
-returns-clause-check g c = λ command is.
-    let same = IsCheck-once (texts c.args.words.now) (command_of c.in-Ok-Some.check) command (rw c.in-Ok-Some.field-0-is at c.in-Ok-Some.ensures) is in
-    subst (λ (x : CheckCommand). EndsWith x c.args.limits.now (g.I.Outside.traffic c.args.ends.now) (g.I.Outside.traffic c.check_lines.new.ends) c.status.result) same
-    (record { end = Err c.in-Err-check_lines.stop; status_is = c.status.ensures; checks = c.in-Err-check_lines.ensures })
+returns-clause-check g c = done.check_done _ _ _ _ _ _ c.perform.ensures
+
+pub returns-clause-answer : goal.returns-clause-answer
+returns-clause-answer g c = done.answer_done _ _ _ _ _ _ c.perform.ensures
+
+pub returns-clause-issue : goal.returns-clause-issue
+returns-clause-issue g c = done.issue_done _ _ _ _ _ _ c.perform.ensures
+
+pub returns-clause-launch : goal.returns-clause-launch
+returns-clause-launch g c = done.launch_done _ _ _ _ _ _ c.perform.ensures
+
+pub returns-clause-passback : goal.returns-clause-passback
+returns-clause-passback g c = done.passback_done _ _ _ _ _ _ c.perform.ensures
+
+pub returns-clause-grades : goal.returns-clause-grades
+returns-clause-grades g c = done.grades_done _ _ _ _ _ _ c.perform.ensures

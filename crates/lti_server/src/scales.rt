@@ -1,0 +1,22 @@
+// The scales by which grades are told.
+use crate::command::Rounding;
+use score_decimal::Scale;
+
+/// The scale of each word by which points are asked for: the greatest whole number below, the nearest, or the least above.
+/// Each keeps what `Scale` promises of its points, whatever it was made of.
+pub struct Scales {
+    pub floor: Scale,
+    pub nearest: Scale,
+    pub ceiling: Scale,
+}
+
+impl Scales {
+    /// The scale of a rounding.
+    pub(crate) fn of(&self, rounding: Rounding) -> &Scale {
+        match rounding {
+            Rounding::Floor => &self.floor,
+            Rounding::Nearest => &self.nearest,
+            Rounding::Ceiling => &self.ceiling,
+        }
+    }
+}
