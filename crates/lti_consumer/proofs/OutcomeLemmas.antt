@@ -17,7 +17,7 @@ use Rattle.lti_provider.specs.Outcomes.{IsScoreOf, IsTold, asks}
 use Rattle.lti_consumer.specs.Outcomes.{OneTelling, AcceptedIsTold, is_of_outcomes}
 
 -- a text writes one number
-number_once : (text : List ℕ) (n m : ℕ) → IsWritten text n → IsWritten text m → n ≡ m
+pub number_once : (text : List ℕ) (n m : ℕ) → IsWritten text n → IsWritten text m → n ≡ m
 number_once text n m is other =
     let places : ℕ = length (fraction_of text) in
     eq_of_mul-eq-mul_right (10 ^ places) (ten_pos places) n m (is.number ∙ sym other.number)

@@ -1,5 +1,5 @@
 -- Which replies may be given to an action.
-use Rattle.std.specs.Prelude.{Bool, true, false, ◌&&◌, not, Some, None, is_some}
+use Rattle.std.specs.Prelude.{Bool, true, false, not, is_some}
 use Rattle.lti_machine.specs.Rules.{is_issue}
 use Rattle.lti_machine.specs.declared.call.Action.{Action}
 use Rattle.lti_machine.specs.declared.call.Action.TheVariants as action

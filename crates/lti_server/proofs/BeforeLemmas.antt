@@ -3,7 +3,7 @@ use Rattle.std.proofs.Common.{◌≡◌, inl, inr, sym, subst, None}
 use Rattle.http_wire.specs.Message.{RequestParts}
 use Rattle.oauth_request.specs.Checked.{Terms, IsWellSigned, Says}
 use Rattle.oauth_request.specs.declared.checking.Signed.{Signed}
-use Rattle.lti_provider.specs.Before.{route_refusal, IsAsked}
+use Rattle.lti_provider.specs.Before.{route_refusal}
 use Rattle.lti_server.specs.BeforeView.{IsTakeable, IsJudged, IsBefore}
 use Rattle.lti_server.specs.declared.before.Before.{Before}
 use Rattle.lti_server.specs.declared.before.Before.TheVariants.{Refused, Asked}

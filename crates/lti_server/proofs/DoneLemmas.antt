@@ -1,8 +1,7 @@
 -- What each clause of a run says, from what was done by its words.
-use Rattle.std.proofs.Common.{◌≡◌, ◌⊎◌, ℕ, ◌+◌, List, [], inl, inr, Option, Result, Ok, Err, refl, sym, ap, ◌∙◌, subst, arith}
-use Rattle.std.specs.Prelude.{length}
+use Rattle.std.proofs.Common.{◌≡◌, ◌⊎◌, ℕ, List, [], inl, inr, Option, Result, Ok, Err, refl, sym, ◌∙◌, subst, arith}
 use Rattle.lti_outside.specs.Faults.{Rose}
-use Rattle.lti_outside.specs.Traffic.{Traffic, Fault, no_fault, read_fault, write_fault, Moves}
+use Rattle.lti_outside.specs.Traffic.{Traffic, Fault, no_fault, Moves}
 use Rattle.lti_outside.specs.declared.limits.Limits.{Limits}
 use Rattle.lti_outside.proofs.TrafficLemmas.{Moves-same}
 use Rattle.http_wire.specs.declared.fault.WireFault.TheVariants as wire
@@ -15,7 +14,7 @@ use Rattle.lti_provider.specs.declared.passback_fault.PassbackFault.{PassbackFau
 use Rattle.lti_provider.specs.declared.passback_fault.PassbackFault.TheVariants as fault
 use Rattle.lti_server.specs.Answering.{HasNoSettings, ServesLink, Answers}
 use Rattle.lti_server.specs.Command.{CheckCommand, IssueCommand, LaunchCommand, PassbackCommand, GradesCommand, IsCheck, IsAnswer, IsIssue, IsLaunch, IsPassback, IsGrades, IsUsage, UsesNoSettings, SignsNothing}
-use Rattle.lti_server.specs.Done.{Passage, ByCommand, OverSettings, DoesIssue, DoesLaunch, DoesPassback, DoesGrades, IsDone}
+use Rattle.lti_server.specs.Done.{Passage, OverSettings, DoesIssue, DoesLaunch, DoesPassback, DoesGrades, IsDone}
 use Rattle.lti_server.specs.Done.IsDone.{no_memory, usage, check, answer, issue, launch, passback, grades}
 use Rattle.lti_server.specs.Ending.{EndsWith}
 use Rattle.lti_server.specs.Issuing.{IsIssued, issued_by}
@@ -30,7 +29,7 @@ use Rattle.lti_server.specs.Report.{IsReported}
 use Rattle.lti_server.specs.Transcript.{IsServed}
 use Rattle.lti_server.specs.Verdicts.{Checks}
 use Rattle.lti_server.specs.SettingsRead.{ReadsSettings}
-use Rattle.lti_server.specs.Shortfall.{done_status, shortfall_status, report_status}
+use Rattle.lti_server.specs.Shortfall.{done_status, report_status}
 use Rattle.lti_server.specs.Status.{status_of, end_status, settings_status}
 use Rattle.lti_server.specs.declared.reports.ReportFault.{ReportFault}
 use Rattle.lti_server.specs.declared.reports.ReportFault.TheVariants as report

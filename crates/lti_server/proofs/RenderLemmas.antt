@@ -1,5 +1,5 @@
 -- Each reply that belongs to a call has an answer.
-use Rattle.std.proofs.Common.{◌≡◌, ◌⊎◌, ℕ, List, Bool, true, false, true≢false, inl, inr, Option, Some, None, refl, sym, ap, ◌∙◌, subst}
+use Rattle.std.proofs.Common.{◌≡◌, ℕ, List, true, false, true≢false, inl, inr, Option, Some, None, refl, sym, ap, ◌∙◌, subst}
 use Rattle.http_wire.specs.Message.{RequestParts, ResponseParts}
 use Rattle.http_wire.specs.Response.{response_text}
 use Rattle.pox_outcomes.specs.declared.outcome.Outcome.{Outcome}
@@ -21,7 +21,7 @@ use Rattle.lti_provider.specs.Answers.{plain_answer, IsRendered, told_answer}
 use Rattle.lti_provider.specs.Before.{IsCall}
 use Rattle.lti_consumer.specs.Outcomes.{is_of_outcomes}
 use Rattle.lti_consumer.proofs.OutcomeLemmas.{accepted_is_told, one_telling}
-use Rattle.lti_server.specs.State.{SessionState, Owed}
+use Rattle.lti_server.specs.State.{SessionState}
 use Rattle.lti_server.specs.Exchange.{Service, Progress, ends_with}
 use Rattle.lti_server.specs.Talk.{Waits, IsOwed, HasAnswer}
 

@@ -1,6 +1,5 @@
 -- Rows told one after another, and their total.
-use Rattle.std.proofs.Common.{◌≡◌, ◌<◌, ◌≤◌, ◌+◌, ◌*◌, ◌^◌, ℕ, zero, suc, Bool, true, false, cond, List, [], ◌∷◌, ◌++◌, count_by, length, take, slice_get, Option, Some, None, refl, sym, ap, ◌∙◌, subst, append_assoc, append-nil, arith}
-use Rattle.std.specs.List.{sum_by}
+use Rattle.std.proofs.Common.{◌≡◌, ◌≤◌, ◌+◌, ◌*◌, ◌^◌, ℕ, zero, suc, cond, List, [], ◌∷◌, ◌++◌, take, slice_get, Some, refl, sym, ap, ◌∙◌, append_assoc, append-nil, arith}
 use Rattle.std.proofs.lemmas.List.Sums.{sum_by-append, sum_by-cons}
 use Rattle.lti_machine.specs.declared.standing.Standing.{Standing}
 use Rattle.lti_machine.specs.declared.standing.Standing.TheVariants.{Unknown, Empty, Scored}
@@ -8,7 +7,7 @@ use Rattle.lti_machine.specs.declared.entry.Entry.{Entry}
 use Rattle.gradebook.specs.Book.{BookValue, Holds, SameContents}
 use Rattle.gradebook.specs.Rows.{RowValue}
 use Rattle.lti_server.specs.Report.{is_scored, is_graded, IsTold, AreTold, row_line, lines_text, graded, sum_of, Lists}
-use Rattle.lti_server.specs.ReportLaw.{exact_of, exact, IsNearTotal, TotalIsNear}
+use Rattle.lti_server.specs.ReportLaw.{exact_of, exact, TotalIsNear}
 
 -- how many grades one id has
 abbrev pub count_one : Standing → ℕ

@@ -1,6 +1,5 @@
 -- The words of commands.
 use Rattle.std.proofs.Common.{◌≡◌, ◌↔◌, Bool, IsTrue, ℕ, suc, ◌<◌, ◌≤◌, ◌+◌, ◌^◌, codes, String, List, [], ◌∷◌, length, get_or, refl, sym, ap, ◌∙◌, subst, ⊎_elim, arith, Some, None}
-use Rattle.std.proofs.Math.Nat.{eq_of_mul-eq-mul_right}
 use Rattle.std.specs.Str.Parse.{digits_value}
 use Rattle.std.proofs.lemmas.Bool.{cond-true, cond-false, cases_Bool}
 use Rattle.std.proofs.lemmas.List.{take_all}
@@ -8,8 +7,7 @@ use Rattle.lti_outside.specs.Decimal.{is_decimal, decimal_of}
 use Rattle.lti_outside.proofs.DigitLemmas.{digits_small, decimal_parts}
 use Rattle.oauth_text.specs.Form.{IsForm}
 use Rattle.oauth_text.specs.Url.{UrlParts}
-use Rattle.score_decimal.specs.Written.{IsWritten, fraction_of}
-use Rattle.score_decimal.proofs.FractionLemmas.{ten_pos}
+use Rattle.lti_consumer.proofs.OutcomeLemmas.{number_once}
 use Rattle.lti_server.specs.Command.{CheckCommand, IsCheck, IsInRange, IsAnswer, IssueCommand, IsIssue, LaunchCommand, IsLaunch, PassbackCommand, IsPassback, GradesCommand, IsGrades, rounding_word, texts}
 use Rattle.lti_server.specs.CommandRanges.{IsIssueInRange, IsLaunchInRange, IsPassbackInRange, IsGradesInRange, kind_number}
 use Rattle.lti_server.specs.declared.command.Rounding.{Rounding}
@@ -167,18 +165,12 @@ IsLaunch-once (name ∷ url ∷ key ∷ link ∷ user ∷ id ∷ service ∷ [])
     first.launch_is ∙ ap (launch_words key link user id service) urls ∙ sym second.launch_is
 IsLaunch-once _ a b first second = absurd first
 
--- a text writes one number
-pub IsWritten-once : (text : List ℕ) (n m : ℕ) → IsWritten text n → IsWritten text m → n ≡ m
-IsWritten-once text n m is other =
-    let places : ℕ = length (fraction_of text) in
-    eq_of_mul-eq-mul_right (10 ^ places) (ten_pos places) n m (is.number ∙ sym other.number)
-
 abbrev passback_words : List ℕ → List ℕ → List ℕ → ℕ → PassbackCommand
 passback_words key link user score = record { key = key; link = link; user = user; score = score }
 
 pub IsPassback-once : (ws : List (List ℕ)) (a b : PassbackCommand) → IsPassback ws a → IsPassback ws b → a ≡ b
 IsPassback-once (name ∷ address ∷ key ∷ link ∷ user ∷ text ∷ []) a b first second =
-    let scores : first.score ≡ second.score = IsWritten-once text first.score second.score first.score_is second.score_is in
+    let scores : first.score ≡ second.score = number_once text first.score second.score first.score_is second.score_is in
     first.passback_is ∙ ap (passback_words key link user) scores ∙ sym second.passback_is
 IsPassback-once _ a b first second = absurd first
 

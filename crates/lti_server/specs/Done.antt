@@ -1,5 +1,5 @@
 -- What a run did, by what its words ask (this project's own).
-use Rattle.std.specs.Prelude.{◌≡◌, ◌⊎◌, ℕ, List, [], Option, Result, Ok, Err}
+use Rattle.std.specs.Prelude.{◌≡◌, ◌⊎◌, ℕ, List, [], Option, Result, Ok}
 use Rattle.lti_outside.specs.Traffic.{Traffic}
 use Rattle.lti_outside.specs.declared.limits.Limits.{Limits}
 use Rattle.lti_machine.specs.declared.entry.Entry.{Entry}

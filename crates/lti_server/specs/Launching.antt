@@ -3,7 +3,6 @@ use Rattle.std.specs.Prelude.{◌≡◌, ◌≢◌, ℕ, List, [], ◌∷◌, �
 use Rattle.lti_outside.specs.Traffic.{Traffic, Moves, no_fault, GivesFront}
 use Rattle.lti_outside.specs.declared.pairs.Pair.{Pair}
 use Rattle.oauth_text.specs.Form.{IsForm, pairs_of}
-use Rattle.oauth_text.specs.Url.{UrlParts}
 use Rattle.oauth_request.specs.Secret.{secret_in}
 use Rattle.oauth_request.specs.Signing.{IsSignedForm}
 use Rattle.lti_machine.specs.Standings.{standing}

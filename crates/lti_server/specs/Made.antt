@@ -1,5 +1,5 @@
 -- Moments and nonces that this end makes for what it signs (RFC 5849, section 3.3; the choice of them is this project's own).
-use Rattle.std.specs.Prelude.{◌≡◌, ◌≤◌, ℕ, max, List, ◌++◌, length, Option}
+use Rattle.std.specs.Prelude.{◌≡◌, ℕ, max, List, ◌++◌, Option}
 use Rattle.std.specs.Int.{w64, to_be_bytes}
 use Rattle.hex.specs.Hex.{encode_lower}
 use Rattle.lti_outside.specs.Moment as clock

@@ -1,8 +1,6 @@
-use Rattle.std.proofs.Common.{◌≡◌, ℕ, List, Some, Option, Ok, Err, inl, inr, refl, rules, ap, sym, ◌∙◌}
-use Rattle.std.specs.Option.{option_map}
+use Rattle.std.proofs.Common.{◌≡◌, Some, Ok, inl, inr, refl, rules}
 use Rattle.oauth_request.specs.Secret.{secret_in}
 use Rattle.gradebook.specs.Placements.{PlacementValue, placement}
-use Rattle.lti_server.specs.Passing.{EndsFirst}
 use Rattle.lti_server.specs.Passing.EndsFirst.{nowhere}
 use Rattle.lti_server.proofs.passing.passback.Goals as goal
 

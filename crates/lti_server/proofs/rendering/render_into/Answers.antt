@@ -1,5 +1,4 @@
-use Rattle.std.proofs.Common.{◌≡◌, ◌++◌, List, ℕ, inr, Option, Some, refl, sym, ap, ◌∙◌, subst}
-use Rattle.http_wire.specs.Message.{ResponseParts}
+use Rattle.std.proofs.Common.{◌≡◌, ◌++◌, List, ℕ, inr, ap, ◌∙◌}
 use Rattle.http_wire.specs.declared.message.Media.TheVariants.{Xml}
 use Rattle.pox_outcomes.specs.Answered.{answer_text}
 use Rattle.lti_provider.specs.Answers.{told_answer}

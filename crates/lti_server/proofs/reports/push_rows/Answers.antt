@@ -1,9 +1,5 @@
-use Rattle.std.proofs.Common.{◌≡◌, ◌≤◌, ◌+◌, ◌*◌, ◌++◌, ◌∷◌, [], ℕ, List, Some, take, length, slice_get, string_bytes, rules, refl, sym, subst, ap, ◌∙◌, arith}
-use Rattle.lti_machine.specs.declared.entry.Entry.{Entry}
-use Rattle.lti_machine.specs.declared.standing.Standing.{Standing}
-use Rattle.gradebook.specs.Book.{Holds}
+use Rattle.std.proofs.Common.{◌≡◌, ◌+◌, Some, take, slice_get, string_bytes, rules, arith}
 use Rattle.gradebook.specs.Rows.{RowValue, rows_of}
-use Rattle.lti_server.specs.Report.{Lists}
 use Rattle.lti_server.proofs.ReportLemmas.{take-next, Lists-push, told_most, count_one, count_one-le}
 use Rattle.lti_server.proofs.reports.push_rows.Goals as goal
 use Rattle.lti_server.proofs.reports.push_rows.Goals.{in-Scored, in_default-standing}
