@@ -1,5 +1,5 @@
 //! The words of each command, right and wrong.
-use super::*;
+use crate::command::{Command, Rounding, read_command};
 use std::alloc::Global;
 use std::process::Abort;
 use std::test::Fail;

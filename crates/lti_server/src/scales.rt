@@ -4,6 +4,7 @@ use score_decimal::Scale;
 
 /// The scale of each word by which points are asked for: the greatest whole number below, the nearest, or the least above.
 /// Each keeps what `Scale` promises of its points, whatever it was made of.
+#[derive(Drop)]
 pub struct Scales {
     pub floor: Scale,
     pub nearest: Scale,
