@@ -11,8 +11,6 @@ use crate::words::{Asked, address_of, read_words, text_of};
 use lti_outside::{Limits, Link, StdLink, StdSource, SystemClock, SystemRandom};
 use lti_server::{Scales, run};
 use rand::rngs::StdRng;
-use score_decimal::{Scale, ceiling_points, floor_points, nearest_points};
-use std::alloc::{AllocError, Global};
 use std::fs::File;
 use std::io::Read;
 use std::net::TcpStream;
@@ -65,15 +63,6 @@ fn given_words(rt: &(impl Env + AllocGlobal)) -> io::Result<Vec<String>> {
     Ok(words)
 }
 
-// The scales of the three words.
-fn scales(alloc: Global) -> Result<Scales, AllocError> {
-    Ok(Scales {
-        floor: Scale::new(Box::new(alloc, floor_points)?),
-        nearest: Scale::new(Box::new(alloc, nearest_points)?),
-        ceiling: Scale::new(Box::new(alloc, ceiling_points)?),
-    })
-}
-
 // Does what the words ask over these ends, with the settings that this reads. A system that gives no seed is a read fault.
 fn work<R: Read + Drop, I: Link>(
     rt: &HostRuntime,
@@ -84,7 +73,7 @@ fn work<R: Read + Drop, I: Link>(
     let Ok(generator) = rand::make_rng::<StdRng, _>(rt) else {
         return 4;
     };
-    let Ok(scales) = scales(rt.alloc()) else {
+    let Ok(scales) = Scales::usual(rt.alloc()) else {
         return 8;
     };
     run(

@@ -1,7 +1,6 @@
 //! `run` with `check`, over links in memory. The signatures were made with Python's hmac.
 use super::*;
 use lti_outside::{Bytes, FixedClock, Limits, ListRandom, MemoryLink, MemorySink, MemorySource};
-use score_decimal::{Scale, ceiling_points, floor_points, nearest_points};
 use std::alloc::Global;
 use std::process::Abort;
 use std::test::Fail;
@@ -55,15 +54,6 @@ pub(crate) fn words(alloc: Global, all: &[&str]) -> Result<Vec<String>, Fail> {
     Ok(words)
 }
 
-// The three scales of the program.
-pub(crate) fn scales(alloc: Global) -> Result<Scales, Fail> {
-    Ok(Scales {
-        floor: Scale::new(Box::new(alloc, floor_points)?),
-        nearest: Scale::new(Box::new(alloc, nearest_points)?),
-        ceiling: Scale::new(Box::new(alloc, ceiling_points)?),
-    })
-}
-
 // The status of a run that needs neither settings nor a clock.
 fn run_words(
     rt: &impl Abort,
@@ -80,7 +70,7 @@ fn run_words(
         ends,
         &FixedClock::new(0),
         &mut ListRandom::new(Vec::new(alloc)),
-        &scales(alloc)?,
+        &Scales::usual(alloc)?,
         limits,
     ))
 }
