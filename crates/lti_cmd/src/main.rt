@@ -5,12 +5,15 @@
 //! only the texts of `--help` and `--version`, and what is printed for a status.
 #![tactic(auto)]
 
+mod points;
 mod words;
 
+use crate::points::{ceiling, floor, nearest};
 use crate::words::{Asked, address_of, read_words, text_of};
 use lti_outside::{Limits, Link, StdLink, StdSource, SystemClock, SystemRandom};
 use lti_server::{Scales, run};
 use rand::rngs::StdRng;
+use score_decimal::Scale;
 use std::fs::File;
 use std::io::Read;
 use std::net::TcpStream;
@@ -73,8 +76,20 @@ fn work<R: Read + Drop, I: Link>(
     let Ok(generator) = rand::make_rng::<StdRng, _>(rt) else {
         return 4;
     };
-    let Ok(scales) = Scales::usual(rt.alloc()) else {
+    let alloc = rt.alloc();
+    let Ok(lowest) = Box::new(alloc, floor) else {
         return 8;
+    };
+    let Ok(nearest) = Box::new(alloc, nearest) else {
+        return 8;
+    };
+    let Ok(highest) = Box::new(alloc, ceiling) else {
+        return 8;
+    };
+    let scales = Scales {
+        floor: Scale::new(lowest),
+        nearest: Scale::new(nearest),
+        ceiling: Scale::new(highest),
     };
     run(
         rt.alloc(),

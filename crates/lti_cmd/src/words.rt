@@ -51,7 +51,7 @@ fn is_version(word: &str) -> bool
 
 /// The address to connect to: the second word of `passback`; `None` for all other words, which need no connection.
 pub fn address_of(words: &[String]) -> Option<&str>
-    ensures { option_map (λ address. address.now) result.entry ≡ address_in (map string_bytes words.now) }
+    ensures { option_map (λ address. address.now) result ≡ address_in (map string_bytes words.now) }
 {
     match words {
         [name, address, ..] if name.as_str() == "passback" => Some(address.as_str()),

@@ -65,7 +65,7 @@ fn answered(
         ends,
         &FixedClock::new(1_400_000_000),
         &mut ListRandom::new(Vec::new(alloc)),
-        &Scales::usual(alloc)?,
+        &crate::tests::scales(alloc)?,
         limits,
     ))
 }

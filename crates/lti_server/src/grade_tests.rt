@@ -6,7 +6,7 @@ use crate::command::{LaunchForm, Passback};
 use crate::launching::launch;
 use crate::passing::passback;
 use crate::shortfall::Shortfall;
-use crate::tests::words;
+use crate::tests::{scales, words};
 use lti_machine::{Action, Call, Solo};
 use lti_outside::{FixedClock, Limits, ListRandom, MemoryLink, Text};
 use oauth_text::Url;
@@ -35,7 +35,7 @@ fn run_with(
         ends,
         &FixedClock::new(1_400_000_000),
         &mut ListRandom::new([1, 2].to_vec(alloc)?),
-        &Scales::usual(alloc)?,
+        &scales(alloc)?,
         &limits,
     ))
 }
@@ -151,7 +151,7 @@ fn is_reported(rt: &impl Abort, alloc: Global, scale: &Scale, want: &str) -> Res
 #[test]
 fn grades_are_reported_in_order_of_issue(rt: HostRuntime) -> Result<(), Fail> {
     let alloc = rt.alloc();
-    let scales = Scales::usual(alloc)?;
+    let scales = scales(alloc)?;
     let nine = "12345\t3124567\t0.92\t9\n12345\t3124568\t-\t-\ntotal\t1\t9\n";
     let ten = "12345\t3124567\t0.92\t10\n12345\t3124568\t-\t-\ntotal\t1\t10\n";
     assert!(rt; is_reported(&rt, alloc, &scales.nearest, nine)?);
@@ -165,7 +165,7 @@ fn a_report_that_cannot_be_written_is_a_write_fault(rt: HostRuntime) -> Result<(
     let alloc = rt.alloc();
     let solo = graded(&rt, alloc)?;
     let book = book_of(alloc, &solo)?;
-    let scales = Scales::usual(alloc)?;
+    let scales = scales(alloc)?;
     let mut ends = link(alloc, b"", 1, &[], &[0])?;
     let end = report(alloc, &book, &scales.floor, 10, &mut ends);
     assert_eq!(rt; end, Err(ReportFault::WriteFault));

@@ -1,6 +1,9 @@
 //! `run` with `check`, over links in memory. The signatures were made with Python's hmac.
+ghost use Rattle.score_decimal.specs.Points.{IsAsked, IsNear};
+
 use super::*;
 use lti_outside::{Bytes, FixedClock, Limits, ListRandom, MemoryLink, MemorySink, MemorySource};
+use score_decimal::{Scale, ceiling_points, floor_points, nearest_points};
 use std::alloc::Global;
 use std::process::Abort;
 use std::test::Fail;
@@ -54,6 +57,36 @@ pub(crate) fn words(alloc: Global, all: &[&str]) -> Result<Vec<String>, Fail> {
     Ok(words)
 }
 
+fn floor(n: u128, max: u32) -> u32
+    requires { IsAsked n max }
+    ensures { IsNear n max result }
+{
+    floor_points(n, max)
+}
+
+fn nearest(n: u128, max: u32) -> u32
+    requires { IsAsked n max }
+    ensures { IsNear n max result }
+{
+    nearest_points(n, max)
+}
+
+fn ceiling(n: u128, max: u32) -> u32
+    requires { IsAsked n max }
+    ensures { IsNear n max result }
+{
+    ceiling_points(n, max)
+}
+
+// The scales of the program.
+pub(crate) fn scales(alloc: Global) -> Result<Scales, Fail> {
+    Ok(Scales {
+        floor: Scale::new(Box::new(alloc, floor)?),
+        nearest: Scale::new(Box::new(alloc, nearest)?),
+        ceiling: Scale::new(Box::new(alloc, ceiling)?),
+    })
+}
+
 // The status of a run that needs neither settings nor a clock.
 fn run_words(
     rt: &impl Abort,
@@ -70,7 +103,7 @@ fn run_words(
         ends,
         &FixedClock::new(0),
         &mut ListRandom::new(Vec::new(alloc)),
-        &Scales::usual(alloc)?,
+        &scales(alloc)?,
         limits,
     ))
 }
