@@ -55,15 +55,15 @@ fn a_timestamp_is_inside_up_to_its_edges(rt: HostRuntime) -> Result<(), Fail> {
     Ok(())
 }
 
-// The reply to the last of these calls, each with its moment, its timestamp and its nonce.
-fn last_reply(alloc: Global, calls: &[(u64, u64, &str)]) -> Result<Reply, Fail> {
+// Whether the last of these calls, each with its moment, its timestamp and its nonce, has this reply.
+fn ends_so(alloc: Global, calls: &[(u64, u64, &str)], wanted: &Reply) -> Result<bool, Fail> {
     let mut solo = Solo::new(alloc);
-    let mut last = Reply::NoMemory;
+    let mut same = false;
     for (moment, timestamp, nonce) in calls {
         let call = note(alloc, *moment, "12345", *timestamp, nonce)?;
-        last = reply(&mut solo, call, 100_000)?;
+        same = reply(&mut solo, call, 100_000)? == *wanted;
     }
-    Ok(last)
+    Ok(same)
 }
 
 #[test]
@@ -74,16 +74,11 @@ fn an_accepted_call_raises_the_moment_and_a_refused_one_does_not(
     let first = (10_000, 10_000, "a");
     let accepted = (20_000, 20_000, "b");
     let refused = (20_000, 1, "b");
-    assert_eq!(rt; last_reply(alloc, &[first, accepted])?, Reply::Noted);
-    assert_eq!(rt;
-        last_reply(alloc, &[first, accepted, first])?,
-        Reply::Outside { now: 20_000 }
-    );
-    assert_eq!(rt;
-        last_reply(alloc, &[first, refused])?,
-        Reply::Outside { now: 20_000 }
-    );
-    assert_eq!(rt; last_reply(alloc, &[first, refused, first])?, Reply::Used);
+    let outside = Reply::Outside { now: 20_000 };
+    assert!(rt; ends_so(alloc, &[first, accepted], &Reply::Noted)?);
+    assert!(rt; ends_so(alloc, &[first, accepted, first], &outside)?);
+    assert!(rt; ends_so(alloc, &[first, refused], &outside)?);
+    assert!(rt; ends_so(alloc, &[first, refused, first], &Reply::Used)?);
     Ok(())
 }
 

@@ -163,3 +163,15 @@ told_part o reply (answer, inr told) is = (told.0, told.1)
 -- with no outcome no reply is told
 pub none_told : (reply : Reply) → (answer : ResponseParts) × IsRendered None reply answer → HasPlain reply
 none_told reply fits = fits
+
+-- want of memory may be told of every call
+no_memory_fits : (asked : Action) → belongs asked NoMemory ≡ true
+no_memory_fits action.Note = refl
+no_memory_fits (action.Launch link user sourced_id service) = refl
+no_memory_fits (action.Replace id score) = refl
+no_memory_fits (action.Read id) = refl
+no_memory_fits (action.Delete id) = refl
+no_memory_fits (action.Issue id) = refl
+
+pub no_memory_owed : (service : Service) (to : Progress) (rest : List ℕ) (new : SessionState) (call : Call) → Waits service to rest new call → HasAnswer new.pending NoMemory
+no_memory_owed service to rest new call waits = answer_owed service to rest new call waits NoMemory (no_memory_fits call.action)
