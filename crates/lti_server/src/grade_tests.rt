@@ -7,6 +7,7 @@ use crate::launching::launch;
 use crate::passing::passback;
 use crate::shortfall::Shortfall;
 use crate::tests::{scales, words};
+use gradebook::Gradebook;
 use lti_machine::{Action, Call, Solo};
 use lti_outside::{FixedClock, Limits, ListRandom, MemoryLink, Text};
 use oauth_text::Url;
@@ -160,28 +161,50 @@ fn grades_are_reported_in_order_of_issue(rt: HostRuntime) -> Result<(), Fail> {
     Ok(())
 }
 
-#[test]
-fn a_report_that_cannot_be_written_is_a_write_fault(rt: HostRuntime) -> Result<(), Fail> {
-    let alloc = rt.alloc();
-    let solo = graded(&rt, alloc)?;
+// Whether the report ends with a write fault where the first write fails.
+fn is_cut(rt: &impl Abort, alloc: Global, scale: &Scale) -> Result<bool, Fail> {
+    let solo = graded(rt, alloc)?;
     let book = book_of(alloc, &solo)?;
-    let scales = scales(alloc)?;
     let mut ends = link(alloc, b"", 1, &[], &[0])?;
-    let end = report(alloc, &book, &scales.floor, 10, &mut ends);
-    assert_eq!(rt; end, Err(ReportFault::WriteFault));
-    Ok(())
+    Ok(report(alloc, &book, scale, 10, &mut ends) == Err(ReportFault::WriteFault))
 }
 
 #[test]
-fn a_launch_of_an_issued_id_is_printed_as_a_form_that_check_accepts(
-    rt: HostRuntime,
-) -> Result<(), Fail> {
+fn a_report_that_cannot_be_written_is_a_write_fault(rt: HostRuntime) -> Result<(), Fail> {
     let alloc = rt.alloc();
-    let solo = graded(&rt, alloc)?;
-    let book = book_of(alloc, &solo)?;
+    let scales = scales(alloc)?;
+    assert!(rt; is_cut(&rt, alloc, &scales.floor)?);
+    Ok(())
+}
+
+// Whether the launch is printed, by the settings, over this book.
+fn is_printed(
+    alloc: Global,
+    asked: &LaunchForm<'_>,
+    book: &Gradebook,
+    ends: &mut MemoryLink,
+) -> Result<bool, Fail> {
     let Ok(settings) = Settings::read(alloc, SETTINGS.as_bytes()) else {
         return Err("no settings".into());
     };
+    let clock = FixedClock::new(1_400_000_000);
+    let mut random = ListRandom::new([1, 2].to_vec(alloc)?);
+    let end = launch(
+        alloc,
+        asked,
+        &settings.keys,
+        book,
+        ends,
+        &clock,
+        &mut random,
+    );
+    Ok(end.is_ok())
+}
+
+// Whether a launch of an issued id is printed.
+fn prints_a_launch(rt: &impl Abort, alloc: Global, ends: &mut MemoryLink) -> Result<bool, Fail> {
+    let solo = graded(rt, alloc)?;
+    let book = book_of(alloc, &solo)?;
     let Ok(url) = Url::read(alloc, "https://tool.example/lti/launch") else {
         return Err("no url".into());
     };
@@ -193,20 +216,12 @@ fn a_launch_of_an_issued_id_is_printed_as_a_form_that_check_accepts(
         id: "3124567",
         service: "https://lms.example/lti/outcomes",
     };
-    let mut ends = link(alloc, b"", 1, &[], &[])?;
-    let clock = FixedClock::new(1_400_000_000);
-    let mut random = ListRandom::new([1, 2].to_vec(alloc)?);
-    let end = launch(
-        alloc,
-        &asked,
-        &settings.keys,
-        &book,
-        &mut ends,
-        &clock,
-        &mut random,
-    );
-    assert_eq!(rt; end, Ok(()));
-    let mut checked = link(alloc, ends.given(), 100, &[], &[])?;
+    is_printed(alloc, &asked, &book, ends)
+}
+
+// Whether `check` accepts the form.
+fn is_accepted(rt: &impl Abort, alloc: Global, form: &[u8]) -> Result<bool, Fail> {
+    let mut ends = link(alloc, form, 100, &[], &[])?;
     let check = [
         "check",
         "https://tool.example/lti/launch",
@@ -214,8 +229,18 @@ fn a_launch_of_an_issued_id_is_printed_as_a_form_that_check_accepts(
         "secret",
         "1400000000",
     ];
-    assert_eq!(rt; run_with(&rt, alloc, &check, "", &mut checked)?, 0);
-    assert!(rt; checked.given() == b"accepted\n".as_slice());
+    let status = run_with(rt, alloc, &check, "", &mut ends)?;
+    Ok(status == 0 && ends.given() == b"accepted\n".as_slice())
+}
+
+#[test]
+fn a_launch_of_an_issued_id_is_printed_as_a_form_that_check_accepts(
+    rt: HostRuntime,
+) -> Result<(), Fail> {
+    let alloc = rt.alloc();
+    let mut ends = link(alloc, b"", 1, &[], &[])?;
+    assert!(rt; prints_a_launch(&rt, alloc, &mut ends)?);
+    assert!(rt; is_accepted(&rt, alloc, ends.given())?);
     Ok(())
 }
 
