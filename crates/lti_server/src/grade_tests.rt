@@ -1,5 +1,7 @@
 //! The commands on grades: over runs that begin with no accepted call, and over machines that have accepted some. What
 //! is signed was signed with Python's hmac.
+ghost use Rattle.lti_server.specs.Command.{IsKey, IsName};
+
 use super::*;
 use crate::answer_tests::{link, source};
 use crate::command::{LaunchForm, Passback};
@@ -183,7 +185,10 @@ fn is_printed(
     asked: &LaunchForm<'_>,
     book: &Gradebook,
     ends: &mut MemoryLink,
-) -> Result<bool, Fail> {
+) -> Result<bool, Fail>
+    requires key { IsKey asked.now.key.now }
+    requires link { IsName asked.now.link.now }
+{
     let Ok(settings) = Settings::read(alloc, SETTINGS.as_bytes()) else {
         return Err("no settings".into());
     };
