@@ -32,17 +32,17 @@ pub enum Action {
         /// the launch names none.
         service: Text,
     },
-    /// To give an id a grade (`replaceResult`, LTI 1.1.1 section 6.1.1). `score` is `None` where what was sent
+    /// To give an id a grade (`replaceResult`, LTI 1.1.1 section 6). `score` is `None` where what was sent
     /// is no score.
     Replace {
         id: Text,
         score: Option<Score>,
     },
-    /// To tell the grade of an id (`readResult`, section 6.1.2).
+    /// To tell the grade of an id (`readResult`, section 6).
     Read {
         id: Text,
     },
-    /// To take the grade of an id away (`deleteResult`, section 6.1.3).
+    /// To take the grade of an id away (`deleteResult`, section 6).
     Delete {
         id: Text,
     },

@@ -3,8 +3,9 @@
 //! OAuth 1.0 (RFC 5849 section 3.3) has each nonce used once with its timestamp and its key. How far a
 //! timestamp may be off, when a nonce is forgotten and how many a key may have are this project's own
 //! rules, and no statement of that standard. The Basic Outcomes service (LTI 1.1.1 section 6) has the grade of
-//! a sourcedId set, read and deleted; that the id must have been issued before is this project's own. Each reply is promised to be the one that the rules decide
-//! over the whole list; only want of memory may stand in place of an acceptance.
+//! a sourcedId set, read and deleted; that the id must have been issued before is this project's own. Each
+//! reply is promised to be the one that the rules decide over the whole list; only want of memory may stand in
+//! place of an acceptance.
 #![tactic(auto)]
 
 mod call;

@@ -211,12 +211,12 @@ never_5 command keys clock window from to (inr i) = issued_5 i.given (sym i.resu
 -- a command that ended before anything passed met no fault of the link
 first_4 : (command : PassbackCommand) (keys : List Pair) → EndsFirst command keys [] (Err short.ReadFault) → ⊥
 first_4 command keys (unknown none is) = let e = is in cc
-first_4 command keys (nowhere none is) = let e = is in cc
+first_4 command keys (nowhere secret known none is) = let e = is in cc
 first_4 command keys (out_of_memory is) = let e = is in cc
 
 first_5 : (command : PassbackCommand) (keys : List Pair) → EndsFirst command keys [] (Err short.WriteFault) → ⊥
 first_5 command keys (unknown none is) = let e = is in cc
-first_5 command keys (nowhere none is) = let e = is in cc
+first_5 command keys (nowhere secret known none is) = let e = is in cc
 first_5 command keys (out_of_memory is) = let e = is in cc
 
 passed_4 : (command : PassbackCommand) (keys : List Pair) (clock : Option ℕ) (random random' : Option (List ℕ)) (limits : Limits) (before after : Traffic)

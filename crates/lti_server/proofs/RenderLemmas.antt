@@ -118,52 +118,6 @@ rendered_once (Some o) reply a b (inr one) (inl other) = absurd (told_not_plain 
 rendered_once (Some o) reply a b (inr one) (inr other) =
     one.2 ∙ ap (told_answer o) (one_telling o reply one.0 other.0 one.1 other.1) ∙ sym other.2
 
--- what is told is of outcomes
-not_told : (o : Outcome) (reply : Reply) (this : Told) → IsTold o reply this → is_of_outcomes reply ≡ false → ⊥
-not_told o Noted this told other = told
-not_told o Launched this told other = told
-not_told o (Outside now) this told other = told
-not_told o Used this told other = told
-not_told o (WindowFull live) this told other = told
-not_told o NoMemory this told other = told
-not_told o Issued this told other = told
-not_told o AlreadyIssued this told other = told
-not_told o Graded this told other = true≢false other
-not_told o Deleted this told other = true≢false other
-not_told o UnknownId this told other = true≢false other
-not_told o BadScore this told other = true≢false other
-not_told o (GradeRead (Some score)) this told other = true≢false other
-not_told o (GradeRead None) this told other = true≢false other
-
-plain_not_told : (reply : Reply) (answer : ResponseParts) → plain_answer reply ≡ Some answer → is_of_outcomes reply ≡ true → ⊥
-plain_not_told Noted answer plain told = true≢false (sym told)
-plain_not_told Launched answer plain told = true≢false (sym told)
-plain_not_told (Outside now) answer plain told = true≢false (sym told)
-plain_not_told Used answer plain told = true≢false (sym told)
-plain_not_told (WindowFull live) answer plain told = true≢false (sym told)
-plain_not_told NoMemory answer plain told = true≢false (sym told)
-plain_not_told Issued answer plain told = true≢false (sym told)
-plain_not_told AlreadyIssued answer plain told = true≢false (sym told)
-plain_not_told Graded answer plain told = let e = plain in cc
-plain_not_told Deleted answer plain told = let e = plain in cc
-plain_not_told UnknownId answer plain told = let e = plain in cc
-plain_not_told BadScore answer plain told = let e = plain in cc
-plain_not_told (GradeRead score) answer plain told = let e = plain in cc
-
--- a reply that isn't told has a plain answer, and one that is told tells something
-pub plain_part : (outcome : Option Outcome) (reply : Reply) → (answer : ResponseParts) × IsRendered outcome reply answer → is_of_outcomes reply ≡ false → HasPlain reply
-plain_part None reply fits other = fits
-plain_part (Some o) reply (answer, inl plain) other = (answer, plain)
-plain_part (Some o) reply (answer, inr told) other = absurd (not_told o reply told.0 told.1 other)
-
-pub told_part : (o : Outcome) (reply : Reply) → (answer : ResponseParts) × IsRendered (Some o) reply answer → is_of_outcomes reply ≡ true → (this : Told) × IsTold o reply this
-told_part o reply (answer, inl plain) is = absurd (plain_not_told reply answer plain is)
-told_part o reply (answer, inr told) is = (told.0, told.1)
-
--- with no outcome no reply is told
-pub none_told : (reply : Reply) → (answer : ResponseParts) × IsRendered None reply answer → HasPlain reply
-none_told reply fits = fits
-
 -- want of memory may be told of every call
 no_memory_fits : (asked : Action) → belongs asked NoMemory ≡ true
 no_memory_fits action.Note = refl

@@ -9,7 +9,6 @@ use Rattle.oauth_text.specs.Form.{IsForm}
 use Rattle.oauth_text.specs.Url.{UrlParts}
 use Rattle.lti_consumer.proofs.OutcomeLemmas.{number_once}
 use Rattle.lti_server.specs.Command.{CheckCommand, IsCheck, IsInRange, IsAnswer, IssueCommand, IsIssue, LaunchCommand, IsLaunch, PassbackCommand, IsPassback, GradesCommand, IsGrades, rounding_word, texts}
-use Rattle.lti_server.specs.CommandRanges.{IsIssueInRange, IsLaunchInRange, IsPassbackInRange, IsGradesInRange, kind_number}
 use Rattle.lti_server.specs.declared.command.Rounding.{Rounding}
 use Rattle.lti_server.specs.declared.command.Rounding.TheVariants.{Floor, Nearest, Ceiling}
 
@@ -86,6 +85,11 @@ IsPassback-length _ asked is = absurd is
 pub IsGrades-length : (ws : List (List ℕ)) (asked : GradesCommand) → IsGrades ws asked → length ws ≡ 3
 IsGrades-length (name ∷ rounding ∷ most ∷ []) asked is = refl
 IsGrades-length _ asked is = absurd is
+
+-- the number of the words and of the first one's bytes together, another for each command
+abbrev kind_number : List (List ℕ) → ℕ
+kind_number [] = 0
+kind_number (name ∷ words) = length (name ∷ words) + length name
 
 -- which command words of some kind ask for
 pub IsAnswer-kind : (ws : List (List ℕ)) → IsAnswer ws → kind_number ws ≡ 7
@@ -209,27 +213,3 @@ IsGrades-once (name ∷ rounding ∷ most ∷ []) a b first second =
     let mosts : a.most ≡ b.most = cc in
     λ i. record { rounding = roundings i; most = mosts i }
 IsGrades-once _ a b first second = absurd first
-
-pub IsIssue-range : (ws : List (List ℕ)) (issue : IssueCommand) → IsIssue ws issue → IsIssueInRange issue
-IsIssue-range (name ∷ key ∷ id ∷ []) issue is = subst IsIssueInRange (sym is.issue_is) (record { key = is.key_fits; id = is.id_fits })
-IsIssue-range _ issue is = absurd is
-
-pub IsLaunch-range : (ws : List (List ℕ)) (launch : LaunchCommand) → IsLaunch ws launch → IsLaunchInRange launch
-IsLaunch-range (name ∷ url ∷ key ∷ link ∷ user ∷ id ∷ service ∷ []) launch is =
-    subst IsLaunchInRange (sym is.launch_is) (record {
-      query = subst IsForm (ap (λ (u : UrlParts). u.query) is.url_is.2) is.url_is.1;
-      key = is.key_fits;
-      link = is.link_fits;
-      user = is.user_fits;
-      id = is.id_fits;
-    })
-IsLaunch-range _ launch is = absurd is
-
-pub IsPassback-range : (ws : List (List ℕ)) (passback : PassbackCommand) → IsPassback ws passback → IsPassbackInRange passback
-IsPassback-range (name ∷ address ∷ key ∷ link ∷ user ∷ text ∷ []) passback is =
-    subst IsPassbackInRange (sym is.passback_is) (record { key = is.key_fits; link = is.link_fits; user = is.user_fits; score = is.score_is.range })
-IsPassback-range _ passback is = absurd is
-
-pub IsGrades-range : (ws : List (List ℕ)) (grades : GradesCommand) → IsGrades ws grades → IsGradesInRange grades
-IsGrades-range (name ∷ rounding ∷ most ∷ []) grades is = record { most_some = is.most_some; most_small = is.most_small }
-IsGrades-range _ grades is = absurd is

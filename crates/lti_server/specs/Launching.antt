@@ -31,8 +31,8 @@ pub record IsFormOf (launch : LaunchCommand) (secret : List ℕ) (clock : Option
   pub pairs : pairs_of form ≡ signed
   pub text_is : text ≡ form ++ 10 ∷ []
 
--- The form was written, or a front of it where a write failed; or nothing was, since the key is unknown, the id isn't
--- issued under it by these entries, or memory ran out.
+-- The form was written, or a front of it where a write failed; or nothing was, since the key is unknown, it is known but
+-- the id isn't issued under it by these entries, or memory ran out.
 abbrev pub IsLaunched : LaunchCommand → List Pair → List Entry → Option ℕ → Option (List ℕ) → Option (List ℕ) → Traffic → Traffic → Result Unit Shortfall → Type 0
 IsLaunched launch keys entries clock random random' before after (Ok _) =
     (secret : List ℕ) × (secret_in keys launch.key ≡ Some secret) × (standing entries launch.key launch.id ≢ Unknown)
@@ -43,6 +43,6 @@ IsLaunched launch keys entries clock random random' before after (Err short.Writ
 IsLaunched launch keys entries clock random random' before after (Err short.UnknownKey) =
     (secret_in keys launch.key ≡ None) × (after ≡ before)
 IsLaunched launch keys entries clock random random' before after (Err short.NotIssued) =
-    (standing entries launch.key launch.id ≡ Unknown) × (after ≡ before)
+    (secret : List ℕ) × (secret_in keys launch.key ≡ Some secret) × (standing entries launch.key launch.id ≡ Unknown) × (after ≡ before)
 IsLaunched launch keys entries clock random random' before after (Err short.NoMemory) = after ≡ before
 IsLaunched launch keys entries clock random random' before after (Err _) = ⊥

@@ -1,15 +1,18 @@
 -- Laws over whole connections (this project's own).
-use Rattle.std.specs.Prelude.{◌≡◌, ℕ, List, ◌++◌, map, Option, ⊤}
+use Rattle.std.specs.Prelude.{◌≡◌, ℕ, List, ◌++◌, map, Option, true, ⊤}
 use Rattle.lti_outside.specs.Traffic.{Traffic, Fault, IsLeft}
 use Rattle.lti_outside.specs.Limits.{IsSound}
 use Rattle.lti_outside.specs.declared.limits.Limits.{Limits}
 use Rattle.lti_outside.specs.declared.pairs.Pair.{Pair}
 use Rattle.oauth_text.specs.declared.url.Scheme.{Scheme}
+use Rattle.lti_machine.specs.Belongs.{belongs}
+use Rattle.lti_machine.specs.declared.call.Call.{Call}
 use Rattle.lti_machine.specs.declared.reply.Reply.{Reply}
 use Rattle.lti_server.specs.declared.session_end.SessionEnd.{SessionEnd}
 use Rattle.lti_server.specs.declared.session_end.SessionEnd.TheVariants.{Ended, LimitReached, CutShort, ReadFault, WriteFault, Refused, NoMemory}
-use Rattle.lti_server.specs.Exchange.{Member}
-use Rattle.lti_server.specs.Talk.{Transcript}
+use Rattle.lti_server.specs.State.{SessionState}
+use Rattle.lti_server.specs.Exchange.{Member, Service, Progress}
+use Rattle.lti_server.specs.Talk.{Transcript, Waits, HasAnswer}
 
 -- no fault of the link and no want of memory ended the connection
 abbrev pub IsUndisturbed : SessionEnd → Type 0
@@ -36,3 +39,10 @@ CutsDoNotMatter =
     → Transcript record { limits = limits; caller = caller; keys = keys; scheme = scheme; clock = clock } after read written told fault end
     → Transcript record { limits = limits; caller = caller'; keys = keys; scheme = scheme; clock = clock' } after' read' written' told' fault' end'
     → (written ≡ written') × (end ≡ end')
+
+-- Each reply that belongs to the call that a session waits for has an answer.
+abbrev pub WhatBelongsIsAnswered : Type 0
+WhatBelongsIsAnswered =
+    (service : Service) (to : Progress) (rest : List ℕ) (new : SessionState) (call : Call)
+    → Waits service to rest new call
+    → (reply : Reply) → belongs call.action reply ≡ true → HasAnswer new.pending reply

@@ -1,7 +1,6 @@
 pub mod Lines
 pub mod Command
 pub mod CommandView
-pub mod CommandRanges
 pub mod Checked
 pub mod CheckerView
 pub mod Verdicts

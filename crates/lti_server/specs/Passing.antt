@@ -53,10 +53,10 @@ HasNoPlacement passback entries =
     (placement entries passback.key passback.link passback.user ≡ None)
     ⊎ ((placed : PlacementValue) × (placement entries passback.key passback.link passback.user ≡ Some placed) × ((url : UrlParts) → IsUrl placed.service url → ⊥))
 
--- the command ended before anything passed over the link
+-- the command ended before anything passed over the link; where the key is unknown, that is said first
 pub data EndsFirst (passback : PassbackCommand) (keys : List Pair) (entries : List Entry) (result : Result Unit Shortfall) : Type 0 where
   unknown : secret_in keys passback.key ≡ None → result ≡ Err short.UnknownKey → EndsFirst passback keys entries result
-  nowhere : HasNoPlacement passback entries → result ≡ Err short.NoPlacement → EndsFirst passback keys entries result
+  nowhere : (secret : List ℕ) → secret_in keys passback.key ≡ Some secret → HasNoPlacement passback entries → result ≡ Err short.NoPlacement → EndsFirst passback keys entries result
   no_memory : result ≡ Err short.NoMemory → EndsFirst passback keys entries result
 
 -- the grade was sent, or tried to be, to where the last launch says, and this came of it

@@ -6,7 +6,7 @@ use std::alloc::Global;
 use std::process::Abort;
 use std::test::Fail;
 
-const SETTINGS: &str =
+pub(crate) const SETTINGS: &str =
     "{\"scheme\":\"https\",\"keys\":[{\"key\":\"12345\",\"secret\":\"secret\"}]}";
 
 // A launch as learning systems send it, twice.

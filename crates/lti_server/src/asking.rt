@@ -248,8 +248,9 @@ impl Session {
         }
     }
 
-    /// Writes the answer to the call that waits; the reply belongs to that call, and so has an answer. At an `Err` a proper
-    /// front of it was written, and the session has ended. It takes no memory.
+    /// Writes the answer to the call that waits; the reply belongs to that call, and so has an answer
+    /// (`what_belongs_is_answered`). At an `Err` a proper front of it was written, and the session has ended. It takes no
+    /// memory.
     pub fn tell<L: Link>(&mut self, link: &mut L, reply: Reply) -> Result<(), WriteFault>
         requires fits { HasAnswer self.old.pending reply }
         requires lives { self.old.ended ≡ false }

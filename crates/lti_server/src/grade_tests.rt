@@ -3,8 +3,8 @@
 ghost use Rattle.lti_server.specs.Command.{IsKey, IsName};
 
 use super::*;
-use crate::answer_tests::{link, source};
-use crate::command::{LaunchForm, Passback};
+use crate::answer_tests::{SETTINGS, link, source};
+use crate::command::{LaunchForm, Passback, Rounding};
 use crate::launching::launch;
 use crate::passing::passback;
 use crate::shortfall::Shortfall;
@@ -17,9 +17,6 @@ use score_decimal::{Scale, Score};
 use std::alloc::Global;
 use std::process::Abort;
 use std::test::Fail;
-
-const SETTINGS: &str =
-    "{\"scheme\":\"https\",\"keys\":[{\"key\":\"12345\",\"secret\":\"secret\"}]}";
 
 // The status of a run with these settings, and what it wrote.
 fn run_with(
@@ -142,12 +139,18 @@ fn graded(rt: &impl Abort, alloc: Global) -> Result<Solo, Fail> {
     Ok(solo)
 }
 
-// Whether the report by this scale, out of 10, is this one.
-fn is_reported(rt: &impl Abort, alloc: Global, scale: &Scale, want: &str) -> Result<bool, Fail> {
+// Whether the report by the scale of this word, out of 10, is this one.
+fn is_reported(
+    rt: &impl Abort,
+    alloc: Global,
+    scales: &Scales,
+    rounding: Rounding,
+    want: &str,
+) -> Result<bool, Fail> {
     let solo = graded(rt, alloc)?;
     let book = book_of(alloc, &solo)?;
     let mut ends = link(alloc, b"", 1, &[], &[])?;
-    let end = report(alloc, &book, scale, 10, &mut ends);
+    let end = report(alloc, &book, scales.of(rounding), 10, &mut ends);
     Ok(end.is_ok() && ends.given() == want.as_bytes())
 }
 
@@ -157,9 +160,9 @@ fn grades_are_reported_in_order_of_issue(rt: HostRuntime) -> Result<(), Fail> {
     let scales = scales(alloc)?;
     let nine = "12345\t3124567\t0.92\t9\n12345\t3124568\t-\t-\ntotal\t1\t9\n";
     let ten = "12345\t3124567\t0.92\t10\n12345\t3124568\t-\t-\ntotal\t1\t10\n";
-    assert!(rt; is_reported(&rt, alloc, &scales.nearest, nine)?);
-    assert!(rt; is_reported(&rt, alloc, &scales.floor, nine)?);
-    assert!(rt; is_reported(&rt, alloc, &scales.ceiling, ten)?);
+    assert!(rt; is_reported(&rt, alloc, &scales, Rounding::Nearest, nine)?);
+    assert!(rt; is_reported(&rt, alloc, &scales, Rounding::Floor, nine)?);
+    assert!(rt; is_reported(&rt, alloc, &scales, Rounding::Ceiling, ten)?);
     Ok(())
 }
 

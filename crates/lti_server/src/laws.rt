@@ -1,5 +1,5 @@
 // Laws over whole connections, and over reports.
-ghost use Rattle.lti_server.specs.Laws.{CutsDoNotMatter};
+ghost use Rattle.lti_server.specs.Laws.{CutsDoNotMatter, WhatBelongsIsAnswered};
 ghost use Rattle.lti_server.specs.ReportLaw.{TotalIsNear};
 
 /// Two connections that give the same bytes, in whatever pieces, with the same replies of the machine, are answered by the
@@ -12,4 +12,10 @@ pub fn cuts_do_not_matter()
 /// grade.
 pub fn total_is_near()
     ensures { TotalIsNear }
+{}
+
+/// Each reply that belongs to the call of an `Ask::Call` can be told by `Session::tell`; the machine answers a call by no
+/// other.
+pub fn what_belongs_is_answered()
+    ensures { WhatBelongsIsAnswered }
 {}

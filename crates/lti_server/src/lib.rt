@@ -3,14 +3,17 @@
 //! `run` does what the words of the command line ask and answers the status. Of each command its contract
 //! says which bytes were read and written, by what the status says, however the input was cut into pieces.
 //!
-//! - `command`: the words; `stop`: why a command ended before its work was done;
+//! - `top`: `run`; `command`: what the words ask, read by `command_words`, `words_of_launch` and `words_of_passback`;
 //! - `check`: the command over a link; `answered`: the lines in whatever pieces; `checker`: which kind of request a line is;
-//!   `verdict`: what is written;
+//!   `verdict`: what is written; `stop`: why the command ended before its work was done;
 //! - `answering`: the command `answer`; `settings`, `settings_source`: what it is served with; `sessions`, `asking`: a whole
 //!   connection, and one call of it;
 //! - `before`: what is said of a request before the machine is asked, by its route (`routes`), and `refusals`: its answers;
 //!   `rendering`: the answer to a reply, with room from `pending`; `wire_faults`: the answer to bytes that spell no request;
-//!   `laws`: how bytes are cut doesn't matter.
+//! - `over_settings`: the commands that a key of the settings is needed for, `issuing`, `launching` and `passing`, with the
+//!   nonces of `making`; `shortfall`: why such a command ended before its work was done;
+//! - `grading`: the command `grades`; `books`: the grades that a machine has; `reports`: their text, by `scales`;
+//! - `laws`: how bytes are cut doesn't matter, and more.
 #![tactic(auto)]
 
 #[cfg(test)]
@@ -61,7 +64,7 @@ mod words_of_passback;
 pub use asking::Session;
 pub use asks::Ask;
 pub use books::book_of;
-pub use laws::{cuts_do_not_matter, total_is_near};
+pub use laws::{cuts_do_not_matter, total_is_near, what_belongs_is_answered};
 pub use reports::{ReportFault, report};
 pub use scales::Scales;
 pub use session_end::SessionEnd;

@@ -1,14 +1,12 @@
 //! Outcome requests through a session, over a machine that has issued an id. The signatures and body hashes were made with
 //! Python's hmac and hashlib.
 use super::*;
+use crate::answer_tests::{SETTINGS, link};
 use lti_machine::{Action, Call, Reply, Solo};
-use lti_outside::{Bytes, FixedClock, Limits, MemoryLink, MemorySink, MemorySource, Text};
+use lti_outside::{FixedClock, Limits, Text};
 use std::alloc::Global;
 use std::process::Abort;
 use std::test::Fail;
-
-const SETTINGS: &str =
-    "{\"scheme\":\"https\",\"keys\":[{\"key\":\"12345\",\"secret\":\"secret\"}]}";
 
 // A machine that has issued the id 3124567 under the key 12345.
 fn machine(rt: &impl Abort, alloc: Global) -> Result<Solo, Fail> {
@@ -29,18 +27,6 @@ fn machine(rt: &impl Abort, alloc: Global) -> Result<Solo, Fail> {
     Ok(solo)
 }
 
-// A link that gives the text in pieces of this size.
-fn link(alloc: Global, text: &[u8], size: usize) -> Result<MemoryLink, Fail> {
-    let mut pieces = Vec::new(alloc);
-    for piece in text.chunks(size.max(1)) {
-        let mut bytes = Bytes::new(alloc);
-        bytes.push(piece)?;
-        pieces.push(bytes)?;
-    }
-    let source = MemorySource::new(pieces, Vec::new(alloc));
-    Ok(MemoryLink::new(source, MemorySink::new(alloc, Vec::new(alloc))))
-}
-
 // Whether a connection that gives these requests, in pieces of this size, is given these answers.
 fn is_served_so(
     rt: &impl Abort,
@@ -50,7 +36,7 @@ fn is_served_so(
     want: &str,
 ) -> Result<bool, Fail> {
     let mut solo = machine(rt, alloc)?;
-    let mut ends = link(alloc, requests.as_bytes(), size)?;
+    let mut ends = link(alloc, requests.as_bytes(), size, &[], &[])?;
     let Ok(settings) = Settings::read(alloc, SETTINGS.as_bytes()) else {
         return Err("no settings".into());
     };

@@ -1,4 +1,7 @@
 // The scales by which grades are told.
+ghost use Rattle.std.specs.Prelude.{◌≡◌};
+ghost use Rattle.lti_server.specs.declared.command.Rounding.TheVariants.{Floor, Nearest, Ceiling};
+
 use crate::command::Rounding;
 use score_decimal::Scale;
 
@@ -13,7 +16,11 @@ pub struct Scales {
 
 impl Scales {
     /// The scale of a rounding.
-    pub(crate) fn of(&self, rounding: Rounding) -> &Scale {
+    pub(crate) fn of(&self, rounding: Rounding) -> &Scale
+        ensures floor { rounding ≡ Floor → result.now ≡ self.now.floor }
+        ensures nearest { rounding ≡ Nearest → result.now ≡ self.now.nearest }
+        ensures ceiling { rounding ≡ Ceiling → result.now ≡ self.now.ceiling }
+    {
         match rounding {
             Rounding::Floor => &self.floor,
             Rounding::Nearest => &self.nearest,

@@ -2,7 +2,8 @@
 ghost use Rattle.score_decimal.specs.Points.{IsAsked, IsNear};
 
 use super::*;
-use lti_outside::{Bytes, FixedClock, Limits, ListRandom, MemoryLink, MemorySink, MemorySource};
+use crate::answer_tests::link;
+use lti_outside::{FixedClock, Limits, ListRandom, MemorySource};
 use score_decimal::{Scale, ceiling_points, floor_points, nearest_points};
 use std::alloc::Global;
 use std::process::Abort;
@@ -29,24 +30,6 @@ fn second(alloc: Global) -> Result<String, Fail> {
 
 fn third(alloc: Global) -> Result<String, Fail> {
     signed(alloc, "n3", "NU7%2FVlBkXDFBHIb9Kx31cCzQwWI%3D")
-}
-
-// A link that gives the text in pieces of this size.
-fn link(
-    alloc: Global,
-    text: &[u8],
-    size: usize,
-    reads: &[u64],
-    writes: &[u64],
-) -> Result<MemoryLink, Fail> {
-    let mut pieces = Vec::new(alloc);
-    for piece in text.chunks(size.max(1)) {
-        let mut bytes = Bytes::new(alloc);
-        bytes.push(piece)?;
-        pieces.push(bytes)?;
-    }
-    let source = MemorySource::new(pieces, reads.to_vec(alloc)?);
-    Ok(MemoryLink::new(source, MemorySink::new(alloc, writes.to_vec(alloc)?)))
 }
 
 pub(crate) fn words(alloc: Global, all: &[&str]) -> Result<Vec<String>, Fail> {

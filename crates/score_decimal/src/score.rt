@@ -4,6 +4,7 @@ ghost use Rattle.std.specs.String.{string_bytes};
 ghost use Rattle.score_decimal.specs.Printed.{score_text};
 ghost use Rattle.score_decimal.specs.Written.{IsWritten};
 
+use crate::digits::ONE;
 use crate::print::{ascii_text, write_units};
 use crate::read::units_of;
 use lti_outside::NoMemory;
@@ -37,6 +38,16 @@ impl Score {
             Some(units) => Some(Score { units }),
             None => None,
         }
+    }
+
+    /// The score of so many units of 10^-30; there is none of more than 10^30.
+    pub fn from_parts(parts: u128) -> Option<Score>
+        ensures { (n : ℕ) → (result ≡ Some n) ↔ ((n ≡ parts) × (parts ≤ 10 ^ 30)) }
+    {
+        if parts > ONE {
+            return None;
+        }
+        Some(Score { units: parts })
     }
 
     /// The score in units of 10^-30, from 0 to 10^30.

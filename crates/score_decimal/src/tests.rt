@@ -38,6 +38,19 @@ fn score_texts_are_read_exactly(rt: HostRuntime) {
 }
 
 #[test]
+fn no_more_than_one_is_a_score(rt: HostRuntime) {
+    for number in [0, 1, ONE - 1, ONE] {
+        let Some(score) = Score::from_parts(number) else {
+            assert!(rt; false);
+            return;
+        };
+        assert_eq!(rt; score.parts(), number);
+    }
+    assert!(rt; Score::from_parts(ONE + 1).is_none());
+    assert!(rt; Score::from_parts(u128::MAX).is_none());
+}
+
+#[test]
 fn other_texts_are_refused(rt: HostRuntime) {
     let texts = [
         "",

@@ -8,7 +8,8 @@ pub returns-in-Err-BadUrl : goal.returns-in-Err-BadUrl
 returns-in-Err-BadUrl g c = λ entries holds.
     let placed : PlacementValue = record { sourced_id = c.in-Some-placement.placement.sourced_id.now; service = c.in-Some-placement.placement.service.now } in
     let is : placement entries c.args.passback.now.key.now c.args.passback.now.link.now c.args.passback.now.user.now ≡ Some placed = search rules in
-    inl (refl, nowhere (inr (placed, is, λ url is_url. c.in-Err-BadUrl.ensures.bad (cc) url is_url)) refl)
+    let known : secret_in c.args.keys.now c.args.passback.now.key.now ≡ Some c.in-Some.secret.now = search rules in
+    inl (refl, nowhere c.in-Some.secret.now known (inr (placed, is, λ url is_url. c.in-Err-BadUrl.ensures.bad (cc) url is_url)) refl)
 
 pub returns-in-Ok-came : goal.returns-in-Ok-came
 returns-in-Ok-came g c = λ entries holds.
