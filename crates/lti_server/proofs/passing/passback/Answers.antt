@@ -1,8 +1,14 @@
-use Rattle.std.proofs.Common.{◌≡◌, Some, Ok, inl, inr, refl, rules}
+use Rattle.std.proofs.Common.{◌≡◌, None, Some, Ok, inl, inr, refl, rules}
 use Rattle.oauth_request.specs.Secret.{secret_in}
 use Rattle.gradebook.specs.Placements.{PlacementValue, placement}
 use Rattle.lti_server.specs.Passing.EndsFirst.{nowhere}
 use Rattle.lti_server.proofs.passing.passback.Goals as goal
+
+pub returns-in_default-placement : goal.returns-in_default-placement
+returns-in_default-placement g c = λ entries holds.
+    let known : secret_in c.args.keys.now c.args.passback.now.key.now ≡ Some c.in-Some.secret.now = search rules in
+    let none : placement entries c.args.passback.now.key.now c.args.passback.now.link.now c.args.passback.now.user.now ≡ None = search rules in
+    inl (refl, nowhere c.in-Some.secret.now known (inl none) refl)
 
 pub returns-in-Err-BadUrl : goal.returns-in-Err-BadUrl
 returns-in-Err-BadUrl g c = λ entries holds.
