@@ -5,3 +5,5 @@ pub mod Belongs
 pub mod Sound
 pub mod Places
 pub mod Kept
+pub mod EntryBytes
+pub mod HeadView

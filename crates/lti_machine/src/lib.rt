@@ -6,10 +6,19 @@
 //! a sourcedId set, read and deleted; that the id must have been issued before is this project's own. Each
 //! reply is promised to be the one that the rules decide over the whole list; only want of memory may stand in
 //! place of an acceptance.
+//!
+//! An entry has bytes of its own, of this project's own form: they are read as that entry and no other.
 #![tactic(auto)]
 
 mod call;
 mod entry;
+mod entry_fault;
+mod entry_parts;
+mod entry_reading;
+#[cfg(test)]
+mod entry_tests;
+mod entry_writing;
+mod laws;
 mod nonces;
 mod places;
 mod reply;
@@ -22,6 +31,10 @@ mod verdict;
 
 pub use call::{Action, Call, GREATEST_MOMENT};
 pub use entry::{Effect, Entry, entry_of};
+pub use entry_fault::EntryFault;
+pub use entry_reading::read_entry;
+pub use entry_writing::{call_len, entry_bytes, entry_len};
+pub use laws::an_entry_has_one_reading;
 pub use nonces::is_inside;
 pub use reply::Reply;
 pub use solo::Solo;
