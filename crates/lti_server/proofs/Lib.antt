@@ -12,3 +12,4 @@ pub mod BeforeLemmas
 pub mod MadeLemmas
 pub mod ReportLemmas
 pub mod DoneLemmas
+pub mod ReplayLemmas

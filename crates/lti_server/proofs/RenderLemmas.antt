@@ -1,5 +1,5 @@
 -- Each reply that belongs to a call has an answer.
-use Rattle.std.proofs.Common.{◌≡◌, ℕ, List, true, false, true≢false, inl, inr, Option, Some, None, refl, sym, ap, ◌∙◌, subst}
+use Rattle.std.proofs.Common.{◌≡◌, ℕ, List, true, true≢false, inl, inr, Option, Some, None, refl, sym, ap, ◌∙◌, subst}
 use Rattle.http_wire.specs.Message.{RequestParts, ResponseParts}
 use Rattle.http_wire.specs.Response.{response_text}
 use Rattle.pox_outcomes.specs.declared.outcome.Outcome.{Outcome}

@@ -1,17 +1,21 @@
 -- Laws over whole connections (this project's own).
-use Rattle.std.specs.Prelude.{◌≡◌, ℕ, List, ◌++◌, map, Option, true, ⊤}
+use Rattle.std.specs.Prelude.{◌≡◌, ◌≢◌, ℕ, List, [], ◌∷◌, ◌++◌, map, Option, true, false, ⊤}
 use Rattle.lti_outside.specs.Traffic.{Traffic, Fault, IsLeft}
 use Rattle.lti_outside.specs.Limits.{IsSound}
 use Rattle.lti_outside.specs.declared.limits.Limits.{Limits}
 use Rattle.lti_outside.specs.declared.pairs.Pair.{Pair}
 use Rattle.oauth_text.specs.declared.url.Scheme.{Scheme}
 use Rattle.lti_machine.specs.Belongs.{belongs}
+use Rattle.lti_machine.specs.Nonces.{stamp_of_call}
+use Rattle.lti_machine.specs.Rules.{is_acceptance, is_issue}
 use Rattle.lti_machine.specs.declared.call.Call.{Call}
+use Rattle.lti_machine.specs.declared.entry.Entry.{Entry}
 use Rattle.lti_machine.specs.declared.reply.Reply.{Reply}
 use Rattle.lti_server.specs.declared.session_end.SessionEnd.{SessionEnd}
 use Rattle.lti_server.specs.declared.session_end.SessionEnd.TheVariants.{Ended, LimitReached, CutShort, ReadFault, WriteFault, Refused, NoMemory}
 use Rattle.lti_server.specs.State.{SessionState}
 use Rattle.lti_server.specs.Exchange.{Member, Service, Progress}
+use Rattle.lti_server.specs.History.{Leads}
 use Rattle.lti_server.specs.Talk.{Transcript, Waits, HasAnswer}
 
 -- no fault of the link and no want of memory ended the connection
@@ -46,3 +50,13 @@ WhatBelongsIsAnswered =
     (service : Service) (to : Progress) (rest : List ℕ) (new : SessionState) (call : Call)
     → Waits service to rest new call
     → (reply : Reply) → belongs call.action reply ≡ true → HasAnswer new.pending reply
+
+-- Of the calls that one list of entries answered, one behind another, no signed one is accepted whose key, timestamp and nonce
+-- are those of one accepted before, whatever was asked between them (RFC 5849, section 3.3).
+abbrev pub NoNonceIsAcceptedTwice : Type 0
+NoNonceIsAcceptedTwice =
+    (window : ℕ) (from to : List Entry) (before between behind : List Member) (first second : Member)
+    → Leads window from (before ++ first ∷ (between ++ second ∷ behind)) to
+    → is_acceptance first.reply ≡ true → first.call.nonce ≢ []
+    → is_issue second.call.action ≡ false → second.call.key ≡ first.call.key → stamp_of_call second.call ≡ stamp_of_call first.call
+    → is_acceptance second.reply ≡ false

@@ -1,5 +1,5 @@
 // Laws over whole connections, and over reports.
-ghost use Rattle.lti_server.specs.Laws.{CutsDoNotMatter, WhatBelongsIsAnswered};
+ghost use Rattle.lti_server.specs.Laws.{CutsDoNotMatter, NoNonceIsAcceptedTwice, WhatBelongsIsAnswered};
 ghost use Rattle.lti_server.specs.ReportLaw.{TotalIsNear};
 
 /// Two connections that give the same bytes, in whatever pieces, with the same replies of the machine, are answered by the
@@ -18,4 +18,10 @@ pub fn total_is_near()
 /// other.
 pub fn what_belongs_is_answered()
     ensures { WhatBelongsIsAnswered }
+{}
+
+/// No signed call is accepted whose key, timestamp and nonce are those of a call that was accepted before (RFC 5849, section
+/// 3.3), whatever was asked between them. So a launch that is posted again isn't launched again.
+pub fn no_nonce_is_accepted_twice()
+    ensures { NoNonceIsAcceptedTwice }
 {}

@@ -64,7 +64,9 @@ mod words_of_passback;
 pub use asking::Session;
 pub use asks::Ask;
 pub use books::book_of;
-pub use laws::{cuts_do_not_matter, total_is_near, what_belongs_is_answered};
+pub use laws::{
+    cuts_do_not_matter, no_nonce_is_accepted_twice, total_is_near, what_belongs_is_answered,
+};
 pub use reports::{ReportFault, report};
 pub use scales::Scales;
 pub use session_end::SessionEnd;
