@@ -1,11 +1,14 @@
 -- The bytes in which an entry is kept (this project's own). Numbers are big-endian. The first form of an entry is the byte 1,
 -- a byte for its effect, the moment and the timestamp of 8 bytes each, the key and the nonce as texts, and the effect's parts.
-use Rattle.std.specs.Prelude.{◌≡◌, ◌↔◌, ℕ, ◌^◌, ◌<◌, ◌≤◌, min, List, [], ◌∷◌, ◌++◌, length, IsUtf8, ⊤}
+use Rattle.std.specs.Prelude.{◌≡◌, ◌↔◌, ℕ, ◌^◌, ◌<◌, ◌≤◌, min, List, [], ◌∷◌, ◌++◌, length, All, IsUtf8, ⊤}
 use Rattle.std.specs.Int.{w32, w64, w128, to_be_bytes}
-use Rattle.lti_machine.specs.Sound.{greatest_moment}
+use Rattle.lti_machine.specs.Rules.{entry_of, now_of}
+use Rattle.lti_machine.specs.Sound.{greatest_moment, IsSound}
+use Rattle.lti_machine.specs.declared.call.Call.{Call}
 use Rattle.lti_machine.specs.declared.entry.Effect.{Effect}
 use Rattle.lti_machine.specs.declared.entry.Effect.TheVariants.{Nothing, Launch, Grade, Cleared, Issued}
 use Rattle.lti_machine.specs.declared.entry.Entry.{Entry}
+use Rattle.lti_machine.specs.declared.reply.Reply.{Reply}
 
 -- a text: how many bytes it has, in 4 bytes, and the bytes
 abbrev pub text_bytes : List ℕ → List ℕ
@@ -71,3 +74,8 @@ pub record IsEntry (bytes : List ℕ) (e : Entry) : Type 0 where
 -- bytes are those of one entry at most
 abbrev pub HasOneReading : Type 0
 HasOneReading = (bytes : List ℕ) (a b : Entry) → IsEntry bytes a → IsEntry bytes b → a ≡ b
+
+-- The entry of a call that the machine takes is in its bounds, where those before it are.
+abbrev pub AcceptedIsBounded : Type 0
+AcceptedIsBounded =
+    (entries : List Entry) (call : Call) (given : Reply) → All IsBounded entries → IsSound call → IsBounded (entry_of call given (now_of entries call))

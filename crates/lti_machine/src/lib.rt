@@ -34,7 +34,7 @@ pub use entry::{Effect, Entry, entry_of};
 pub use entry_fault::EntryFault;
 pub use entry_reading::read_entry;
 pub use entry_writing::{call_len, entry_bytes, entry_len};
-pub use laws::an_entry_has_one_reading;
+pub use laws::{an_accepted_call_is_in_its_bounds, an_entry_has_one_reading};
 pub use nonces::is_inside;
 pub use reply::Reply;
 pub use solo::Solo;
