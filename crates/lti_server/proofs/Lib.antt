@@ -13,3 +13,4 @@ pub mod MadeLemmas
 pub mod ReportLemmas
 pub mod DoneLemmas
 pub mod ReplayLemmas
+pub mod GradeLemmas

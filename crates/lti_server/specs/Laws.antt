@@ -1,5 +1,6 @@
 -- Laws over whole connections (this project's own).
-use Rattle.std.specs.Prelude.{◌≡◌, ◌≢◌, ℕ, List, [], ◌∷◌, ◌++◌, map, Option, true, false, ⊤}
+use Rattle.std.specs.Prelude.{◌≡◌, ◌≢◌, ℕ, Bool, ◌&&◌, List, [], ◌∷◌, ◌++◌, map, bytes_eq, Option, Some, true, false, ⊤}
+use Rattle.std.specs.List.{list_any}
 use Rattle.lti_outside.specs.Traffic.{Traffic, Fault, IsLeft}
 use Rattle.lti_outside.specs.Limits.{IsSound}
 use Rattle.lti_outside.specs.declared.limits.Limits.{Limits}
@@ -8,9 +9,12 @@ use Rattle.oauth_text.specs.declared.url.Scheme.{Scheme}
 use Rattle.lti_machine.specs.Belongs.{belongs}
 use Rattle.lti_machine.specs.Nonces.{stamp_of_call}
 use Rattle.lti_machine.specs.Rules.{is_acceptance, is_issue}
+use Rattle.lti_machine.specs.declared.call.Action.{Action}
+use Rattle.lti_machine.specs.declared.call.Action.TheVariants.{Replace, Read, Delete}
 use Rattle.lti_machine.specs.declared.call.Call.{Call}
 use Rattle.lti_machine.specs.declared.entry.Entry.{Entry}
 use Rattle.lti_machine.specs.declared.reply.Reply.{Reply}
+use Rattle.lti_machine.specs.declared.reply.Reply.TheVariants as reply
 use Rattle.lti_server.specs.declared.session_end.SessionEnd.{SessionEnd}
 use Rattle.lti_server.specs.declared.session_end.SessionEnd.TheVariants.{Ended, LimitReached, CutShort, ReadFault, WriteFault, Refused, NoMemory}
 use Rattle.lti_server.specs.State.{SessionState}
@@ -60,3 +64,24 @@ NoNonceIsAcceptedTwice =
     → is_acceptance first.reply ≡ true → first.call.nonce ≢ []
     → is_issue second.call.action ≡ false → second.call.key ≡ first.call.key → stamp_of_call second.call ≡ stamp_of_call first.call
     → is_acceptance second.reply ≡ false
+
+-- the action sets the grade of this id, or takes it away
+abbrev pub is_change : List ℕ → Action → Bool
+is_change id (Replace other (Some score)) = bytes_eq other id
+is_change id (Delete other) = bytes_eq other id
+is_change id _ = false
+
+-- a call of this key was accepted that sets the grade of this id, or takes it away
+abbrev pub changes : List ℕ → List ℕ → Member → Bool
+changes key id m = is_acceptance m.reply && (bytes_eq m.call.key key && is_change id m.call.action)
+
+-- Of the calls that one list of entries answered, one behind another: a grade that was set is what an accepted call to read it is
+-- told, where no call between them was accepted that sets it or takes it away (LTI 1.1.1, section 6).
+abbrev pub GradeIsTold : Type 0
+GradeIsTold =
+    (window : ℕ) (from to : List Entry) (before between behind : List Member) (first second : Member) (id : List ℕ) (score : ℕ)
+    → Leads window from (before ++ first ∷ (between ++ second ∷ behind)) to
+    → first.call.action ≡ Replace id (Some score) → first.reply ≡ reply.Graded
+    → list_any (changes first.call.key id) between ≡ false
+    → second.call.key ≡ first.call.key → second.call.action ≡ Read id → is_acceptance second.reply ≡ true
+    → second.reply ≡ reply.GradeRead (Some score)

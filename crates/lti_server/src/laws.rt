@@ -1,5 +1,5 @@
 // Laws over whole connections, and over reports.
-ghost use Rattle.lti_server.specs.Laws.{CutsDoNotMatter, NoNonceIsAcceptedTwice, WhatBelongsIsAnswered};
+ghost use Rattle.lti_server.specs.Laws.{CutsDoNotMatter, GradeIsTold, NoNonceIsAcceptedTwice, WhatBelongsIsAnswered};
 ghost use Rattle.lti_server.specs.ReportLaw.{TotalIsNear};
 
 /// Two connections that give the same bytes, in whatever pieces, with the same replies of the machine, are answered by the
@@ -24,4 +24,10 @@ pub fn what_belongs_is_answered()
 /// 3.3), whatever was asked between them. So a launch that is posted again isn't launched again.
 pub fn no_nonce_is_accepted_twice()
     ensures { NoNonceIsAcceptedTwice }
+{}
+
+/// A grade that was set is told to whoever asks for it (LTI 1.1.1, section 6), as long as no call that is accepted sets it again
+/// or takes it away.
+pub fn a_grade_is_told_as_it_was_set()
+    ensures { GradeIsTold }
 {}

@@ -65,7 +65,8 @@ pub use asking::Session;
 pub use asks::Ask;
 pub use books::book_of;
 pub use laws::{
-    cuts_do_not_matter, no_nonce_is_accepted_twice, total_is_near, what_belongs_is_answered,
+    a_grade_is_told_as_it_was_set, cuts_do_not_matter, no_nonce_is_accepted_twice, total_is_near,
+    what_belongs_is_answered,
 };
 pub use reports::{ReportFault, report};
 pub use scales::Scales;
