@@ -93,6 +93,9 @@ is_acceptance reply.AlreadyIssued = false
 is_acceptance (reply.Outside now) = false
 is_acceptance reply.Used = false
 is_acceptance (reply.WindowFull live) = false
+is_acceptance (reply.JournalFull free) = false
+is_acceptance (reply.DiskFault faults) = false
+is_acceptance reply.RunFull = false
 is_acceptance reply.NoMemory = false
 
 -- The reply is the one decided; in place of an acceptance, want of memory may be answered.

@@ -36,6 +36,14 @@ pub enum Reply {
     /// their number. A nonce is forgotten 91 minutes after its timestamp, counted by whole minutes since
     /// 1970. Forgetting and the limit are this project's own.
     WindowFull { live: u32 },
+    /// The call would be accepted, but what is kept of it doesn't fit on the disk: `free` is how many bytes an entry may have.
+    /// The nonce isn't used up.
+    JournalFull { free: u64 },
+    /// A call of the disk failed while the call was accepted; `faults` is how many have failed by now. The nonce isn't used up,
+    /// unless a crash or the end of the run finds the call on the disk.
+    DiskFault { faults: u64 },
+    /// The run has answered as many calls as it may.
+    RunFull,
     /// Accepting needs memory that was refused, or the list has 2^32 - 1 entries, which is its end. The
     /// nonce isn't used up, and the same call may be asked again.
     NoMemory,
@@ -59,6 +67,9 @@ impl Reply {
             | Reply::Outside { .. }
             | Reply::Used
             | Reply::WindowFull { .. }
+            | Reply::JournalFull { .. }
+            | Reply::DiskFault { .. }
+            | Reply::RunFull
             | Reply::NoMemory => false,
         }
     }

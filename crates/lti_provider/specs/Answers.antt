@@ -88,6 +88,9 @@ plain_answer reply.Launched = Some (plain 200 (codes "launched"))
 plain_answer (reply.Outside now) = Some (plain 401 (codes "outside the window at " ++ decimal now))
 plain_answer reply.Used = Some (plain 401 (codes "nonce already used"))
 plain_answer (reply.WindowFull live) = Some (plain 503 (codes "window full at " ++ decimal live))
+plain_answer (reply.JournalFull free) = Some (plain 503 (codes "journal full, " ++ decimal free ++ codes " free"))
+plain_answer (reply.DiskFault faults) = Some (plain 503 (codes "disk fault"))
+plain_answer reply.RunFull = Some (plain 503 (codes "run full"))
 plain_answer reply.NoMemory = Some no_memory_answer
 plain_answer given = None
 

@@ -9,7 +9,7 @@ use Rattle.lti_machine.specs.declared.call.Action.{Action}
 use Rattle.lti_machine.specs.declared.call.Action.TheVariants as action
 use Rattle.lti_machine.specs.declared.call.Call.{Call}
 use Rattle.lti_machine.specs.declared.reply.Reply.{Reply}
-use Rattle.lti_machine.specs.declared.reply.Reply.TheVariants.{Noted, Launched, Graded, GradeRead, Deleted, UnknownId, BadScore, Issued, AlreadyIssued, Outside, Used, WindowFull, NoMemory}
+use Rattle.lti_machine.specs.declared.reply.Reply.TheVariants.{Noted, Launched, Graded, GradeRead, Deleted, UnknownId, BadScore, Issued, AlreadyIssued, Outside, Used, WindowFull, JournalFull, DiskFault, RunFull, NoMemory}
 use Rattle.pox_outcomes.specs.declared.outcome.Operation.{Operation}
 use Rattle.pox_outcomes.specs.declared.outcome.Operation.TheVariants.{ReplaceResult, ReadResult, DeleteResult}
 use Rattle.oauth_request.specs.Checked.{parameters}
@@ -35,6 +35,9 @@ plain_of_launch link user sourced_id service Launched fits = (_, refl)
 plain_of_launch link user sourced_id service (Outside now) fits = (_, refl)
 plain_of_launch link user sourced_id service Used fits = (_, refl)
 plain_of_launch link user sourced_id service (WindowFull live) fits = (_, refl)
+plain_of_launch link user sourced_id service (JournalFull free) fits = (_, refl)
+plain_of_launch link user sourced_id service (DiskFault faults) fits = (_, refl)
+plain_of_launch link user sourced_id service RunFull fits = (_, refl)
 plain_of_launch link user sourced_id service NoMemory fits = (_, refl)
 plain_of_launch link user sourced_id service Graded fits = absurd (true≢false (sym fits))
 plain_of_launch link user sourced_id service (GradeRead score) fits = absurd (true≢false (sym fits))
@@ -63,6 +66,9 @@ outcome_rendered o asked Launched is fits = (_, inl refl)
 outcome_rendered o asked (Outside now) is fits = (_, inl refl)
 outcome_rendered o asked Used is fits = (_, inl refl)
 outcome_rendered o asked (WindowFull live) is fits = (_, inl refl)
+outcome_rendered o asked (JournalFull free) is fits = (_, inl refl)
+outcome_rendered o asked (DiskFault faults) is fits = (_, inl refl)
+outcome_rendered o asked RunFull is fits = (_, inl refl)
 outcome_rendered o asked NoMemory is fits = (_, inl refl)
 outcome_rendered o asked Graded is fits = told_rendered o asked Graded is fits refl
 outcome_rendered o asked (GradeRead score) is fits = told_rendered o asked (GradeRead score) is fits refl
@@ -99,6 +105,9 @@ told_not_plain o Launched this answer told plain = told
 told_not_plain o (Outside now) this answer told plain = told
 told_not_plain o Used this answer told plain = told
 told_not_plain o (WindowFull live) this answer told plain = told
+told_not_plain o (JournalFull free) this answer told plain = told
+told_not_plain o (DiskFault faults) this answer told plain = told
+told_not_plain o RunFull this answer told plain = told
 told_not_plain o NoMemory this answer told plain = told
 told_not_plain o Issued this answer told plain = told
 told_not_plain o AlreadyIssued this answer told plain = told

@@ -9,7 +9,7 @@ use Rattle.lti_machine.specs.declared.call.Call.{Call}
 use Rattle.lti_machine.specs.declared.call.Action.TheVariants.{Note}
 use Rattle.lti_machine.specs.declared.entry.Entry.{Entry}
 use Rattle.lti_machine.specs.declared.reply.Reply.{Reply}
-use Rattle.lti_machine.specs.declared.reply.Reply.TheVariants.{Outside, Used, WindowFull, NoMemory}
+use Rattle.lti_machine.specs.declared.reply.Reply.TheVariants.{Outside, Used, WindowFull, JournalFull, DiskFault, RunFull, NoMemory}
 use Rattle.oauth_request.specs.declared.checking.Signed.{Signed}
 use Rattle.lti_server.specs.Command.{CheckCommand}
 use Rattle.lti_server.specs.Checked.{HasFault, IsWellSigned}
@@ -47,6 +47,9 @@ abbrev pub reply_line : Reply → List ℕ
 reply_line (Outside now) = codes "outside " ++ decimal now ++ 10 ∷ []
 reply_line Used = codes "used" ++ 10 ∷ []
 reply_line (WindowFull live) = codes "window full" ++ 10 ∷ []
+reply_line (JournalFull free) = []
+reply_line (DiskFault faults) = []
+reply_line RunFull = []
 reply_line NoMemory = []
 reply_line _ = codes "accepted" ++ 10 ∷ []
 

@@ -68,6 +68,21 @@ fn render_plain(body: &mut Bytes, reply: Reply) -> u16
             put_number(body, b"window full at ", u64::from(live));
             503
         }
+        Reply::JournalFull { free } => {
+            let mut digits = Buffer::new();
+            put(body, b"journal full, ");
+            put(body, digits.format(free).as_bytes());
+            put(body, b" free\n");
+            503
+        }
+        Reply::DiskFault { .. } => {
+            put(body, b"disk fault\n");
+            503
+        }
+        Reply::RunFull => {
+            put(body, b"run full\n");
+            503
+        }
         Reply::NoMemory => {
             put(body, b"want of memory\n");
             503

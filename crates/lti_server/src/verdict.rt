@@ -26,7 +26,8 @@ fn push_reply(out: &mut String, alloc: Global, reply: &Reply) -> Result<(), NoMe
         Reply::Outside { now } => out.push_str(format!(in alloc; "outside {now}\n")?.as_str())?,
         Reply::Used => out.push_str("used\n")?,
         Reply::WindowFull { .. } => out.push_str("window full\n")?,
-        Reply::NoMemory => return Err(NoMemory),
+        Reply::JournalFull { .. } | Reply::DiskFault { .. } | Reply::RunFull | Reply::NoMemory =>
+            return Err(NoMemory),
         _ => out.push_str("accepted\n")?,
     }
     Ok(())
