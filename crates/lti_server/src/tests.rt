@@ -3,7 +3,7 @@ ghost use Rattle.score_decimal.specs.Points.{IsAsked, IsNear};
 
 use super::*;
 use crate::answer_tests::link;
-use lti_outside::{FixedClock, Limits, ListRandom, MemorySource};
+use lti_outside::{FixedClock, Limits, ListRandom, MemoryLink, MemorySource};
 use score_decimal::{Scale, ceiling_points, floor_points, nearest_points};
 use std::alloc::Global;
 use std::process::Abort;
