@@ -1,0 +1,4 @@
+pub mod HeldLemmas
+pub mod KeepLemmas
+pub mod OfficeLemmas
+pub mod MountLemmas

@@ -1,0 +1,5 @@
+pub mod Ledger
+pub mod Keeping
+pub mod Office
+pub mod Responding
+pub mod Mounting
