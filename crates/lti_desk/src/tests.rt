@@ -87,86 +87,107 @@ fn launch(alloc: Global, nonce: &str) -> Result<Call, Fail> {
     )
 }
 
-fn asked(rt: &impl Abort, office: &mut Office<MemoryDisk>, call: Call) -> Reply {
+// Whether the office gives the call this reply.
+fn replies(rt: &impl Abort, office: &mut Office<MemoryDisk>, call: Call, want: Reply) -> bool {
     assert!(rt; call.sound());
-    office.answer(call)
+    office.answer(call) == want
+}
+
+// Whether an id is issued and graded, and a launch accepted.
+fn fills(rt: &impl Abort, alloc: Global, office: &mut Office<MemoryDisk>) -> Result<bool, Fail> {
+    let is_issued = replies(rt, office, issue(alloc)?, Reply::Issued);
+    let is_graded = replies(rt, office, grade(alloc, "n1")?, Reply::Graded);
+    let is_launched = replies(rt, office, launch(alloc, "n2")?, Reply::Launched);
+    let is_counted = office.calls() == 3 && office.accepted() == 3;
+    Ok(is_issued && is_graded && is_launched && is_counted)
 }
 
 // A disk on which an id was issued and graded, and a launch accepted.
-fn filled(rt: &impl Abort, alloc: Global, limits: &Limits) -> Result<MemoryDisk, Fail> {
-    let mut office = mounted(rt, alloc, zeros(alloc, 2_000, &[])?, limits)?;
-    assert_eq!(rt; asked(rt, &mut office, issue(alloc)?), Reply::Issued);
-    assert_eq!(rt; asked(rt, &mut office, grade(alloc, "n1")?), Reply::Graded);
-    assert_eq!(rt;
-        asked(rt, &mut office, launch(alloc, "n2")?),
-        Reply::Launched
-    );
-    assert_eq!(rt; (office.calls(), office.accepted()), (3, 3));
+fn filled(rt: &impl Abort, alloc: Global) -> Result<MemoryDisk, Fail> {
+    let mut office = mounted(rt, alloc, zeros(alloc, 2_000, &[])?, &limits(1_000, 10))?;
+    let is_filled = fills(rt, alloc, &mut office)?;
+    assert!(rt; is_filled);
     Ok(office.close())
 }
 
-#[test]
-fn what_was_accepted_is_found_by_the_next_mounting(rt: HostRuntime) -> Result<(), Fail> {
-    let alloc = rt.alloc();
-    let limits = limits(1_000, 10);
-    let disk = filled(&rt, alloc, &limits)?;
-    let mut office = mounted(&rt, alloc, disk, &limits)?;
-    assert_eq!(rt; asked(&rt, &mut office, grade(alloc, "n1")?), Reply::Used);
-    assert_eq!(rt; asked(&rt, &mut office, launch(alloc, "n2")?), Reply::Used);
-    assert_eq!(rt;
-        asked(&rt, &mut office, issue(alloc)?),
-        Reply::AlreadyIssued
-    );
+// Whether the nonces are used, the id is issued and its grade is told.
+fn remembers(
+    rt: &impl Abort,
+    alloc: Global,
+    office: &mut Office<MemoryDisk>,
+) -> Result<bool, Fail> {
     let read = Action::Read {
         id: Text::new(alloc, "3124567")?,
     };
     let told = Reply::GradeRead {
         score: Score::read("0.92"),
     };
-    assert_eq!(rt; asked(&rt, &mut office, signed(alloc, "n3", read)?), told);
-    assert_eq!(rt; (office.calls(), office.accepted()), (4, 1));
-    let Some(placement) = office.book().placement("12345", "1", "2") else {
-        return Err("no placement".into());
-    };
-    assert_eq!(rt; placement.service, "https://lms.example/lti/outcomes");
+    let is_graded = replies(rt, office, grade(alloc, "n1")?, Reply::Used);
+    let is_launched = replies(rt, office, launch(alloc, "n2")?, Reply::Used);
+    let is_issued = replies(rt, office, issue(alloc)?, Reply::AlreadyIssued);
+    let is_told = replies(rt, office, signed(alloc, "n3", read)?, told);
+    let is_counted = office.calls() == 4 && office.accepted() == 1;
+    Ok(is_graded && is_launched && is_issued && is_told && is_counted)
+}
+
+// Whether the grade of the launch goes to its service.
+fn is_placed(office: &Office<MemoryDisk>) -> bool {
+    match office.book().placement("12345", "1", "2") {
+        Some(placement) => placement.service == "https://lms.example/lti/outcomes",
+        None => false,
+    }
+}
+
+#[test]
+fn what_was_accepted_is_found_by_the_next_mounting(rt: HostRuntime) -> Result<(), Fail> {
+    let alloc = rt.alloc();
+    let mut office = mounted(&rt, alloc, filled(&rt, alloc)?, &limits(1_000, 10))?;
+    let remembers = remembers(&rt, alloc, &mut office)?;
+    assert!(rt; remembers && is_placed(&office));
     Ok(())
+}
+
+// Whether what has no room is refused, and what has some is accepted.
+fn is_tight(rt: &impl Abort, alloc: Global, office: &mut Office<MemoryDisk>) -> Result<bool, Fail> {
+    let is_refused = replies(
+        rt,
+        office,
+        launch(alloc, "n1")?,
+        Reply::JournalFull { free: 49 },
+    );
+    let is_issued = replies(rt, office, issue(alloc)?, Reply::Issued);
+    let is_full = replies(
+        rt,
+        office,
+        grade(alloc, "n1")?,
+        Reply::JournalFull { free: 2 },
+    );
+    Ok(is_refused && is_issued && is_full && office.accepted() == 1)
 }
 
 #[test]
 fn an_entry_that_finds_no_room_is_refused(rt: HostRuntime) -> Result<(), Fail> {
     let alloc = rt.alloc();
     let mut office = mounted(&rt, alloc, zeros(alloc, 128, &[])?, &limits(64, 10))?;
-    assert_eq!(rt;
-        asked(&rt, &mut office, launch(alloc, "n1")?),
-        Reply::JournalFull { free: 49 }
-    );
-    assert_eq!(rt; asked(&rt, &mut office, issue(alloc)?), Reply::Issued);
-    assert_eq!(rt;
-        asked(&rt, &mut office, grade(alloc, "n1")?),
-        Reply::JournalFull { free: 2 }
-    );
-    assert_eq!(rt;
-        asked(&rt, &mut office, issue(alloc)?),
-        Reply::AlreadyIssued
-    );
-    assert_eq!(rt; (office.calls(), office.accepted()), (4, 1));
+    let is_tight = is_tight(&rt, alloc, &mut office)?;
+    assert!(rt; is_tight);
     Ok(())
+}
+
+// Whether the third call finds that the run is full.
+fn ends(rt: &impl Abort, alloc: Global, office: &mut Office<MemoryDisk>) -> Result<bool, Fail> {
+    let is_issued = replies(rt, office, issue(alloc)?, Reply::Issued);
+    let is_refused = replies(rt, office, issue(alloc)?, Reply::AlreadyIssued);
+    let is_full = replies(rt, office, grade(alloc, "n1")?, Reply::RunFull);
+    Ok(is_issued && is_refused && is_full && office.calls() == 2)
 }
 
 #[test]
 fn a_run_answers_so_many_calls(rt: HostRuntime) -> Result<(), Fail> {
     let alloc = rt.alloc();
     let mut office = mounted(&rt, alloc, zeros(alloc, 2_000, &[])?, &limits(1_000, 2))?;
-    assert_eq!(rt; asked(&rt, &mut office, issue(alloc)?), Reply::Issued);
-    assert_eq!(rt;
-        asked(&rt, &mut office, issue(alloc)?),
-        Reply::AlreadyIssued
-    );
-    assert_eq!(rt;
-        asked(&rt, &mut office, grade(alloc, "n1")?),
-        Reply::RunFull
-    );
-    assert_eq!(rt; office.calls(), 2);
+    let ends = ends(&rt, alloc, &mut office)?;
+    assert!(rt; ends);
     Ok(())
 }
 
@@ -176,27 +197,32 @@ fn mounting_calls(rt: &impl Abort, alloc: Global) -> Result<u64, Fail> {
     Ok(office.close().calls().len() as u64)
 }
 
-// An office over which the call of the disk with this number failed while an id was issued.
-fn failed(rt: &impl Abort, alloc: Global, failing: u64) -> Result<Office<MemoryDisk>, Fail> {
+// Whether a fault is told and leaves this doubt, and the same call is accepted then.
+fn recovers(
+    rt: &impl Abort,
+    alloc: Global,
+    office: &mut Office<MemoryDisk>,
+    is_doubtful: bool,
+) -> Result<bool, Fail> {
+    let has_failed = replies(rt, office, issue(alloc)?, Reply::DiskFault { faults: 1 });
+    let is_as_told = office.doubtful() == is_doubtful && office.book().rows() == 0;
+    let is_issued = replies(rt, office, issue(alloc)?, Reply::Issued);
+    Ok(has_failed && is_as_told && is_issued && !office.doubtful())
+}
+
+// Whether an office does so where the call of the disk with this number, counted from the mounting's last, fails.
+fn recovers_at(rt: &impl Abort, alloc: Global, call: u64, is_doubtful: bool) -> Result<bool, Fail> {
+    let failing = mounting_calls(rt, alloc)?.saturating_add(call);
     let disk = zeros(alloc, 2_000, &[failing])?;
     let mut office = mounted(rt, alloc, disk, &limits(1_000, 10))?;
-    assert_eq!(rt;
-        asked(rt, &mut office, issue(alloc)?),
-        Reply::DiskFault { faults: 1 }
-    );
-    assert_eq!(rt; office.book().rows(), 0);
-    Ok(office)
+    recovers(rt, alloc, &mut office, is_doubtful)
 }
 
 #[test]
 fn a_fault_before_the_gate_is_opened_leaves_no_doubt(rt: HostRuntime) -> Result<(), Fail> {
     let alloc = rt.alloc();
-    let first = mounting_calls(&rt, alloc)?;
-    for failing in [first, first.saturating_add(1)] {
-        let mut office = failed(&rt, alloc, failing)?;
-        assert!(rt; !office.doubtful());
-        assert_eq!(rt; asked(&rt, &mut office, issue(alloc)?), Reply::Issued);
-    }
+    assert!(rt; recovers_at(&rt, alloc, 0, false)?);
+    assert!(rt; recovers_at(&rt, alloc, 1, false)?);
     Ok(())
 }
 
@@ -205,14 +231,30 @@ fn a_fault_while_the_gate_is_opened_is_in_doubt_until_it_is_repaired(
     rt: HostRuntime,
 ) -> Result<(), Fail> {
     let alloc = rt.alloc();
-    let first = mounting_calls(&rt, alloc)?;
-    for failing in [first.saturating_add(2), first.saturating_add(3)] {
-        let mut office = failed(&rt, alloc, failing)?;
-        assert!(rt; office.doubtful());
-        assert_eq!(rt; asked(&rt, &mut office, issue(alloc)?), Reply::Issued);
-        assert!(rt; !office.doubtful());
-    }
+    assert!(rt; recovers_at(&rt, alloc, 2, true)?);
+    assert!(rt; recovers_at(&rt, alloc, 3, true)?);
     Ok(())
+}
+
+// The disk of an office over which the call with this number, counted from the mounting's last, failed.
+fn failed(rt: &impl Abort, alloc: Global, call: u64) -> Result<MemoryDisk, Fail> {
+    let failing = mounting_calls(rt, alloc)?.saturating_add(call);
+    let disk = zeros(alloc, 2_000, &[failing])?;
+    let mut office = mounted(rt, alloc, disk, &limits(1_000, 10))?;
+    let has_failed = replies(
+        rt,
+        &mut office,
+        issue(alloc)?,
+        Reply::DiskFault { faults: 1 },
+    );
+    assert!(rt; has_failed);
+    Ok(office.close())
+}
+
+// How many ids a mounting of an image of the disk finds.
+fn rows_of(rt: &impl Abort, alloc: Global, disk: &MemoryDisk, pick: u64) -> Result<usize, Fail> {
+    let office = mounted(rt, alloc, disk.image(pick)?, &limits(1_000, 10))?;
+    Ok(office.book().rows())
 }
 
 // How many ids the mountings of some images of the disk find, the fewest and the most.
@@ -220,8 +262,7 @@ fn found(rt: &impl Abort, alloc: Global, disk: &MemoryDisk) -> Result<(usize, us
     let mut fewest = usize::MAX;
     let mut most = 0;
     for pick in 0..16 {
-        let office = mounted(rt, alloc, disk.image(pick)?, &limits(1_000, 10))?;
-        let rows = office.book().rows();
+        let rows = rows_of(rt, alloc, disk, pick)?;
         fewest = fewest.min(rows);
         most = most.max(rows);
     }
@@ -231,51 +272,70 @@ fn found(rt: &impl Abort, alloc: Global, disk: &MemoryDisk) -> Result<(usize, us
 #[test]
 fn a_crash_leaves_what_was_answered(rt: HostRuntime) -> Result<(), Fail> {
     let alloc = rt.alloc();
-    let disk = filled(&rt, alloc, &limits(1_000, 10))?;
+    let disk = filled(&rt, alloc)?;
     assert_eq!(rt; found(&rt, alloc, &disk)?, (1, 1));
-    let first = mounting_calls(&rt, alloc)?;
-    let disk = failed(&rt, alloc, first)?.close();
+    Ok(())
+}
+
+#[test]
+fn a_crash_after_a_fault_leaves_the_call_only_where_it_is_in_doubt(
+    rt: HostRuntime,
+) -> Result<(), Fail> {
+    let alloc = rt.alloc();
+    let disk = failed(&rt, alloc, 0)?;
     assert_eq!(rt; found(&rt, alloc, &disk)?, (0, 0));
-    let disk = failed(&rt, alloc, first.saturating_add(3))?.close();
+    let disk = failed(&rt, alloc, 3)?;
     assert_eq!(rt; found(&rt, alloc, &disk)?, (0, 1));
     Ok(())
 }
 
+// Whether the payload is committed.
+fn commits(alloc: Global, journal: &mut Journal<MemoryDisk>, payload: &[u8]) -> Result<bool, Fail> {
+    if journal.doubtful() || payload.is_empty() || payload.len() > 1000 {
+        return Ok(false);
+    }
+    let framed = frame(alloc, payload)?;
+    Ok(journal.commit(&framed).is_ok())
+}
+
 // A disk whose journal has one piece with this payload.
-fn with_payload(alloc: Global, payload: &[u8]) -> Result<MemoryDisk, Fail> {
+fn with_payload(rt: &impl Abort, alloc: Global, payload: &[u8]) -> Result<MemoryDisk, Fail> {
     let Ok((mut journal, _)) = Journal::mount(alloc, zeros(alloc, 2_000, &[])?, 1_000) else {
         return Err("not mounted".into());
     };
-    if journal.doubtful() || payload.is_empty() || payload.len() > 1000 {
-        return Err("no payload".into());
-    }
-    let framed = frame(alloc, payload)?;
-    if journal.commit(&framed).is_err() {
-        return Err("not committed".into());
-    }
+    let is_kept = commits(alloc, &mut journal, payload)?;
+    assert!(rt; is_kept);
     Ok(journal.close())
+}
+
+// Why a disk isn't mounted.
+fn fault_of(rt: &impl Abort, alloc: Global, disk: MemoryDisk) -> Option<MountFault> {
+    let limits = limits(1_000, 10);
+    assert!(rt; limits.sound());
+    match Office::mount(alloc, disk, &limits) {
+        Ok(_) => None,
+        Err(unmounted) => Some(unmounted.fault),
+    }
 }
 
 #[test]
 fn a_payload_that_is_no_entry_is_damaged(rt: HostRuntime) -> Result<(), Fail> {
     let alloc = rt.alloc();
-    let limits = limits(1_000, 10);
-    assert!(rt; limits.sound());
-    let Err(unmounted) = Office::mount(alloc, with_payload(alloc, b"no entry")?, &limits) else {
-        return Err("mounted".into());
-    };
-    assert_eq!(rt; unmounted.fault, MountFault::Damaged { at: 9 });
+    let disk = with_payload(&rt, alloc, b"no entry")?;
+    assert_eq!(rt;
+        fault_of(&rt, alloc, disk),
+        Some(MountFault::Damaged { at: 9 })
+    );
     Ok(())
 }
 
 #[test]
 fn a_disk_below_two_halves_is_too_small(rt: HostRuntime) -> Result<(), Fail> {
     let alloc = rt.alloc();
-    let limits = limits(1_000, 10);
-    assert!(rt; limits.sound());
-    let Err(unmounted) = Office::mount(alloc, zeros(alloc, 1_999, &[])?, &limits) else {
-        return Err("mounted".into());
-    };
-    assert_eq!(rt; unmounted.fault, MountFault::TooSmall { size: 1_999 });
+    let disk = zeros(alloc, 1_999, &[])?;
+    assert_eq!(rt;
+        fault_of(&rt, alloc, disk),
+        Some(MountFault::TooSmall { size: 1_999 })
+    );
     Ok(())
 }
