@@ -95,6 +95,8 @@ impl<D: Disk> Office<D> {
         ensures half { (place_of self.new.journal).half ≡ (place_of self.old.journal).half }
         ensures calls { self.new.calls ≡ self.old.calls }
         ensures most { self.new.most ≡ self.old.most }
+        ensures accepted { OnOk result (self.new.accepted ≡ self.old.accepted + 1) }
+        ensures not_accepted { OnErr result (self.new.accepted ≡ self.old.accepted) }
     {
         let Ok((entry, framed)) = make(self.alloc, &mut self.ledger, call, reply, now) else {
             return Err(NotKept::NoMemory);
@@ -117,6 +119,8 @@ impl<D: Disk> Office<D> {
         ensures half { (place_of self.new.journal).half ≡ (place_of self.old.journal).half }
         ensures calls { self.new.calls ≡ self.old.calls }
         ensures most { self.new.most ≡ self.old.most }
+        ensures accepted { rules.is_acceptance result ≡ true → self.new.accepted ≡ self.old.accepted + 1 }
+        ensures not_accepted { rules.is_acceptance result ≡ false → self.new.accepted ≡ self.old.accepted }
     {
         let reply = self.ledger.decide(call);
         if !reply.is_acceptance() {
@@ -136,11 +140,12 @@ impl<D: Disk> Office<D> {
         }
     }
 
-    /// Mounts a disk of two halves of `limits.half` bytes, as a crash may have left it, and goes on over the entries that it keeps. It
-    /// writes nothing. A key may have `limits.window` nonces that aren't forgotten, and the office answers `limits.calls` calls.
+    /// Mounts a disk of two halves of `limits.half` bytes, as a crash may have left it, and goes on over the entries that
+    /// it keeps. It writes nothing. A key may have `limits.window` nonces that aren't forgotten, and the office answers
+    /// `limits.calls` calls.
     ///
-    /// `TooSmall` comes exactly where the disk is below two halves. `Damaged { at }` has the place of an open gate before a piece
-    /// that passes its half's end, or else before the first piece whose payload is no entry.
+    /// `TooSmall` comes exactly where the disk is below two halves. `Damaged { at }` has the place of an open gate before a
+    /// piece that passes its half's end, or else before the first piece whose payload is no entry.
     pub fn mount(alloc: Global, disk: D, limits: &Limits) -> Result<Office<D>, Unmounted<D>>
         requires { limits_range.IsSound limits.now }
 
@@ -183,13 +188,14 @@ impl<D: Disk> Office<D> {
 
     /// Answers a call by the rules over all that was accepted, and keeps it on the disk where it is accepted.
     ///
-    /// `RunFull` comes exactly where as many calls were answered as may be; nothing has changed then. `JournalFull { free }` comes
-    /// exactly where the call would be accepted and its entry has more bytes than the `free` ones. `NoMemory` and
+    /// `RunFull` comes exactly where as many calls were answered as may be; nothing has changed then. `JournalFull { free }`
+    /// comes exactly where the call would be accepted and its entry has more bytes than the `free` ones. `NoMemory` and
     /// `DiskFault { faults }` may stand in place of an acceptance; all memory is taken before the first call of the disk.
     pub fn answer(&mut self, call: Call) -> Reply
         requires sound { IsSound call }
 
-        // The reply is the one decided over the list, unless the run or the journal is full, memory is wanting, or the disk failed.
+        // The reply is the one decided over the list, unless the run or the journal is full, memory is wanting, or the
+        // disk failed.
         ensures run_full { self.old.calls ≡ self.old.most → (result ≡ Reply.RunFull) × (self.new ≡ self.old) }
         ensures run_full_only { (entries : List Entry) → Knows self.old entries → result ≡ Reply.RunFull → self.old.calls ≡ self.old.most }
         ensures replied { self.old.calls < self.old.most → (entries : List Entry) → Knows self.old entries
@@ -202,11 +208,13 @@ impl<D: Disk> Office<D> {
         ensures known { (entries : List Entry) → Knows self.old entries → Knows self.new (rules.after entries call result) }
         ensures limit { self.new.ledger.window.limit ≡ self.old.ledger.window.limit }
         ensures calls { self.old.calls < self.old.most → self.new.calls ≡ self.old.calls + 1 }
+        ensures accepted { rules.is_acceptance result ≡ true → self.new.accepted ≡ self.old.accepted + 1 }
+        ensures not_accepted { rules.is_acceptance result ≡ false → self.new.accepted ≡ self.old.accepted }
         ensures most { self.new.most ≡ self.old.most }
         ensures half { (place_of self.new.journal).half ≡ (place_of self.old.journal).half }
 
-        // At each moment of the call a crash leaves the list, the list with the entry that was in doubt, or the list with the entry
-        // of this call; or no call of the disk was made.
+        // At each moment of the call a crash leaves the list, the list with the entry that was in doubt, or the list with the
+        // entry of this call; or no call of the disk was made.
         ensures any_moment { (entries : List Entry) (doubt : Option Entry) → Knows self.old entries → Keeps self.old entries doubt
             → (self.new.journal ≡ self.old.journal) ⊎ LeavesOnly ⟦<D as Disk>⟧ (disk_of self.old.journal) (disk_of self.new.journal)
             (IsOneOfLists (place_of self.old.journal).half entries doubt
@@ -216,7 +224,8 @@ impl<D: Disk> Office<D> {
         ensures kept { rules.is_acceptance result ≡ true → (entries : List Entry) (doubt : Option Entry) → Knows self.old entries → Keeps self.old entries doubt
             → Keeps self.new (rules.after entries call result) None }
 
-        // After a fault of the disk it leaves the list; the entry that was in doubt may still be, or that of this call, or none is.
+        // After a fault of the disk it leaves the list; the entry that was in doubt may still be, or that of this call, or
+        // none is.
         ensures doubt { (faults : ℕ) → result ≡ Reply.DiskFault faults → (entries : List Entry) (doubt : Option Entry) → Knows self.old entries → Keeps self.old entries doubt
             → (later : Option Entry) × Keeps self.new entries later
             × IsDoubtAfter doubt (rules.entry_of call (rules.decide entries call self.old.ledger.window.limit) (rules.now_of entries call)) later }
