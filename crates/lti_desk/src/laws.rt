@@ -7,8 +7,8 @@ ghost use Rattle.lti_machine.specs.declared.entry.Entry.{Entry};
 ghost use Rattle.lti_desk.specs.Mounting.{AreEntries};
 ghost use Rattle.lti_desk.specs.Office.{payloads};
 
-/// Payloads in which entries are kept are read as these entries, and as no others. So what a mounting finds on a disk that stands
-/// for the payloads of a list is that list.
+/// Payloads in which entries are kept are read as these entries, and as no others. So what a mounting finds on a disk that
+/// stands for the payloads of a list is that list.
 pub fn what_is_kept_is_read()
     ensures read { (pieces : List Piece) (entries : List Entry) → All IsInRange entries → payloads_of pieces ≡ payloads entries → AreEntries pieces entries }
     ensures one { (first second : List Entry) → All IsInRange first → All IsInRange second → payloads first ≡ payloads second → first ≡ second }

@@ -1,9 +1,9 @@
 //! What stands behind a server: the machine whose accepted calls are kept on a disk.
 //!
-//! An `Office` answers each call as `lti_machine` decides over the list of all accepted entries, without keeping that list: it
-//! keeps which nonces may still be used again, how the issued ids stand, and where grades go (`ledger`). What it accepts it
-//! writes to its journal first (`keeping`), and a mounting finds it there again (`mounting`). The journal, its limits and its
-//! faults are this project's own.
+//! An `Office` answers each call as `lti_machine` decides over the list of all accepted entries, without keeping that
+//! list: it has a window of nonces and a book of grades (`ledger`). What it accepts it writes to its journal first
+//! (`keeping`), and a mounting finds it there again (`mounting`). The journal, its limits and its faults are this
+//! project's own.
 #![tactic(auto)]
 
 mod keeping;

@@ -1,5 +1,5 @@
-//! Offices over disks in memory: what the next mounting finds, a full journal, a fault at each call of a commit, and what a
-//! crash leaves.
+//! Offices over disks in memory: what the next mounting finds, a full journal, a fault at each call of a commit, and what
+//! a crash leaves.
 use super::*;
 use gate_journal::{Journal, MountFault, frame};
 use lti_machine::{Action, Call, Reply};
