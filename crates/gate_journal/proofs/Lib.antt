@@ -1,10 +1,10 @@
 pub mod BlockLemmas
 pub mod ElsewhereLemmas
 pub mod HeadLemmas
+pub mod StepLemmas
 pub mod PieceLemmas
 pub mod PackedLemmas
 pub mod DoubtLemmas
-pub mod CommitLemmas
-pub mod CompactLemmas
+pub mod ChangeLemmas
 pub mod ReadingLemmas
 pub mod UniqueLemmas

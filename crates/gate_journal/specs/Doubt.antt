@@ -1,5 +1,5 @@
 -- What a journal knows of each image of its disk, and what is in doubt.
-use Rattle.std.specs.Prelude.{◌≡◌, ℕ, ◌+◌, ◌<◌, ◌≤◌, Bool, true, false, List, [], ◌∷◌, ◌++◌, length}
+use Rattle.std.specs.Prelude.{◌≡◌, ℕ, ◌+◌, ◌<◌, ◌≤◌, Bool, true, false, List, [], ◌∷◌, ◌++◌, length, drop}
 use Rattle.gate_journal.specs.Half.{Place, base_of, other_base, blocks, framed, opens, generation_at, IsFilled}
 use Rattle.gate_journal.specs.declared.doubt.Doubt.{Doubt}
 use Rattle.gate_journal.specs.declared.doubt.Doubt.TheVariants.{Nothing, Piece, Half}
@@ -15,8 +15,8 @@ pub record IsHarmless (image : List ℕ) (j : Place) : Type 0 where
   pub below : generation_at image (other_base j) ≤ j.generation
   pub strictly : j.second ≡ true → generation_at image (other_base j) < j.generation
 
--- The heads of both halves: is_open says whether the gate of the current half is open, and may_open whether that of the other
--- one may be, which then is harmless.
+-- The heads of both halves: is_open says whether the gate of the current half is open, and may_open whether that of
+-- the other one may be, which then is harmless.
 pub record HasHeads (image : List ℕ) (j : Place) (is_open may_open : Bool) : Type 0 where
   pub own : IsOwn image j is_open
   pub other_shut : may_open ≡ false → opens image (other_base j) ≡ false
@@ -29,11 +29,9 @@ pub record Stands (image : List ℕ) (j : Place) (is_open may_open : Bool) (payl
 
 -- behind the payloads stands one more piece, whole, behind a gate that is open or isn't
 pub record IsPieceInDoubt (image : List ℕ) (j : Place) (is_open may_open : Bool) (payloads : List (List ℕ)) (payload : List ℕ) : Type 0 where
-  pub front : List ℕ
   pub byte : ℕ
   pub rest : List ℕ
-  pub image_is : image ≡ front ++ (blocks payloads ++ byte ∷ (framed payload ++ rest))
-  pub head : length front ≡ base_of j + 9
+  pub bytes_are : drop (base_of j + 9) image ≡ blocks payloads ++ byte ∷ (framed payload ++ rest)
   pub ends : 9 + length (blocks payloads) ≡ j.gate
   pub inside : j.gate + 5 + length payload < j.half
   pub heads : HasHeads image j is_open may_open

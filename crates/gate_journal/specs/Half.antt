@@ -1,9 +1,11 @@
--- What the bytes of a disk stand for. The disk has two halves of one size. A half is a gate byte, a generation of 8 bytes, and
--- pieces from its place 9 on; a piece is a gate byte, a length of 4 bytes and the payload. Exactly 1 is an open gate.
+-- What the bytes of a disk stand for. The disk has two halves of one size. A half is a gate byte, a generation of
+-- 8 bytes, and pieces from its place 9 on; a piece is a gate byte, a length of 4 bytes and the payload. Exactly 1 is
+-- an open gate.
 use Rattle.std.specs.Prelude.{◌≡◌, ◌≢◌, ◌⊎◌, ℕ, ◌+◌, ◌-◌, ◌^◌, ◌<◌, ◌≤◌, Bool, not, ◌&&◌, ◌||◌, ◌==◌, nat_lt, if◌then◌else◌, List, [], ◌∷◌, ◌++◌, length, take, drop, get_or}
 use Rattle.std.specs.Int.{w32, w64, to_be_bytes, from_be_bytes}
 
--- where a journal stands: the size of a half, whether half 1 is current, its generation and its end gate's place in it
+-- where a journal stands: the size of a half, whether half 1 is current, its generation, and its end gate's place
+-- in it
 pub record Place : Type 0 where
   pub half : ℕ
   pub second : Bool
@@ -73,8 +75,8 @@ opens image base = get_or image base 0 == 1
 abbrev pub generation_at : List ℕ → ℕ → ℕ
 generation_at image base = from_be_bytes w64 (take 8 (drop (base + 1) image))
 
--- By the gates a, b and the generations m, n of the halves, whether half 1 is current, and the current generation: the open half
--- of greater generation, half 0 where they are equal, and half 0 with generation 0 where none is open.
+-- By the gates a, b and the generations m, n of the halves, whether half 1 is current, and the current generation:
+-- the open half of greater generation, half 0 where they are equal, and half 0 with generation 0 where none is open.
 abbrev pub picks_second : Bool → Bool → ℕ → ℕ → Bool
 picks_second a b m n = b && (not a || nat_lt m n)
 
@@ -88,11 +90,9 @@ pub record IsCurrent (image : List ℕ) (j : Place) : Type 0 where
 
 -- the payloads fill the half that begins at base, up to a gate inside it that isn't open
 pub record IsFilled (image : List ℕ) (base half gate : ℕ) (payloads : List (List ℕ)) : Type 0 where
-  pub front : List ℕ
   pub byte : ℕ
   pub rest : List ℕ
-  pub image_is : image ≡ front ++ (blocks payloads ++ byte ∷ rest)
-  pub head : length front ≡ base + 9
+  pub bytes_are : drop (base + 9) image ≡ blocks payloads ++ byte ∷ rest
   pub ends : 9 + length (blocks payloads) ≡ gate
   pub inside : gate < half
   pub closed : byte ≢ 1
@@ -113,10 +113,8 @@ IsEither half payloads others image = StandsFor image half payloads ⊎ StandsFo
 -- pieces fill the half that begins at base, up to an open gate before a piece that passes the half's end
 pub record IsPassed (image : List ℕ) (base half gate : ℕ) : Type 0 where
   pub payloads : List (List ℕ)
-  pub front : List ℕ
   pub rest : List ℕ
-  pub image_is : image ≡ front ++ (blocks payloads ++ 1 ∷ rest)
-  pub head : length front ≡ base + 9
+  pub bytes_are : drop (base + 9) image ≡ blocks payloads ++ 1 ∷ rest
   pub ends : 9 + length (blocks payloads) ≡ gate
   pub inside : gate < half
   pub passes : half < gate + 6 + from_be_bytes w32 (take 4 rest)

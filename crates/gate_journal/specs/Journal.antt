@@ -29,7 +29,8 @@ pub record Keeps {D : Type 0} {g : Ghosts D} (journal : Journal D g) (payloads :
   pub tells : g.tells
   pub each : (image : List ℕ) → g.may_leave journal.disk image → Stands image (place_of journal) journal.is_open journal.may_open payloads
 
--- the disk tells what it holds, and each of its images stands for these payloads or for the others, as the gate in doubt is read
+-- the disk tells what it holds, and each of its images stands for these payloads or for the others, as the gate in
+-- doubt is read
 pub record MayKeep {D : Type 0} {g : Ghosts D} (journal : Journal D g) (payloads others : List (List ℕ)) : Type 0 where
   pub tells : g.tells
   pub each : (image : List ℕ) → g.may_leave journal.disk image

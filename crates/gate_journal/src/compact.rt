@@ -1,17 +1,19 @@
 // Putting other pieces in the place of those that stand.
-ghost use Rattle.std.specs.Prelude.{◌≡◌, ◌↔◌, ◌+◌, ◌-◌, ◌^◌, ◌<◌, ◌≤◌, ℕ, true, false, List, length, OnOk, OnErr};
+ghost use Rattle.std.specs.Prelude.{◌≡◌, ◌↔◌, ◌+◌, ◌-◌, ◌^◌, ◌<◌, ◌≤◌, ℕ, false, List, length, OnOk, OnErr};
 ghost use Rattle.lti_outside.specs.Faults.{Rose};
 ghost use Rattle.lti_outside.specs.DiskMoments.{LeavesOnly};
-ghost use Rattle.gate_journal.specs.Half.{free_of, packed_place, packed_of, packed_generation, IsPacked, StandsFor, IsEither};
+ghost use Rattle.gate_journal.specs.Half.{free_of, packed_generation, IsPacked, StandsFor};
 ghost use Rattle.gate_journal.specs.declared.commit_fault.CommitFault.TheVariants.{Full, DiskFault};
 
 use crate::doubt::Doubt;
 use crate::frames::read_generation;
+use crate::write::write_step;
 use crate::{CommitFault, Journal};
-use lti_outside::{Bytes, Disk, DiskFault, write_synced};
+use lti_outside::{Bytes, Disk, DiskFault};
 
 impl<D: Disk> Journal<D> {
-    ghost use Rattle.gate_journal.specs.Journal.{disk_of, place_of, doubts, Keeps, MayKeep};
+    ghost use Rattle.gate_journal.specs.Journal.{disk_of, place_of, doubts, Keeps};
+    ghost use Rattle.gate_journal.specs.Changes.{Repacks};
 
     /// Puts the pieces that `pack` packed, with the generation after `generation`, in the place of those
     /// that stand: closes the gate of the other half where it may be open, and syncs; writes the pieces
@@ -20,23 +22,7 @@ impl<D: Disk> Journal<D> {
     pub fn compact(&mut self, packed: &Bytes) -> Result<(), CommitFault>
         requires settled { doubts self.old ≡ false }
         requires packed { IsPacked ((place_of self.old).generation + 1) packed.now.list }
-        ensures place { OnOk result (place_of self.new ≡ packed_place (place_of self.old) ((place_of self.old).generation + 1) (length packed.now.list - 9)) }
-        ensures place_err { OnErr result (place_of self.new ≡ place_of self.old) }
-
-        // A crash at any moment of the call leaves the pieces from before or the packed ones.
-        ensures any_moment { (payloads pieces : List (List ℕ)) → packed.now.list ≡ packed_of ((place_of self.old).generation + 1) pieces → Keeps self.old payloads
-            → LeavesOnly ⟦<D as Disk>⟧ (disk_of self.old) (disk_of self.new) (IsEither (place_of self.old).half payloads pieces) }
-
-        // From then on it leaves the packed ones.
-        ensures kept { OnOk result ((payloads pieces : List (List ℕ)) → packed.now.list ≡ packed_of ((place_of self.old).generation + 1) pieces
-            → Keeps self.old payloads → Keeps self.new pieces) }
-        ensures settled { OnOk result (doubts self.new ≡ false) }
-
-        // After a fault it leaves those from before, unless the packed ones are in doubt.
-        ensures clear { OnErr result (doubts self.new ≡ false → (payloads : List (List ℕ)) → Keeps self.old payloads → Keeps self.new payloads) }
-        ensures doubt { doubts self.new ≡ true → (payloads pieces : List (List ℕ)) → packed.now.list ≡ packed_of ((place_of self.old).generation + 1) pieces
-            → Keeps self.old payloads → MayKeep self.new payloads pieces }
-
+        ensures repacks { Repacks self.old self.new result ((place_of self.old).generation + 1) packed.now.list }
         ensures full { (result ≡ Err (CommitFault.Full (free_of (place_of self.old)))) ↔ ((place_of self.old).half ≤ length packed.now.list) }
         ensures full_alone { (free : ℕ) → result ≡ Err (CommitFault.Full free) → self.new ≡ self.old }
         ensures full_free { (free : ℕ) → result ≡ Err (CommitFault.Full free) → free ≡ free_of (place_of self.old) }
@@ -51,16 +37,7 @@ impl<D: Disk> Journal<D> {
     pub fn adopt(&mut self, packed: &Bytes) -> Result<(), CommitFault>
         requires settled { doubts self.old ≡ false }
         requires packed { (generation : ℕ) × ((place_of self.old).generation < generation) × IsPacked generation packed.now.list }
-        ensures place { OnOk result (place_of self.new ≡ packed_place (place_of self.old) (packed_generation packed.now.list) (length packed.now.list - 9)) }
-        ensures place_err { OnErr result (place_of self.new ≡ place_of self.old) }
-        ensures any_moment { (payloads pieces : List (List ℕ)) → packed.now.list ≡ packed_of (packed_generation packed.now.list) pieces → Keeps self.old payloads
-            → LeavesOnly ⟦<D as Disk>⟧ (disk_of self.old) (disk_of self.new) (IsEither (place_of self.old).half payloads pieces) }
-        ensures kept { OnOk result ((payloads pieces : List (List ℕ)) → packed.now.list ≡ packed_of (packed_generation packed.now.list) pieces
-            → Keeps self.old payloads → Keeps self.new pieces) }
-        ensures settled { OnOk result (doubts self.new ≡ false) }
-        ensures clear { OnErr result (doubts self.new ≡ false → (payloads : List (List ℕ)) → Keeps self.old payloads → Keeps self.new payloads) }
-        ensures doubt { doubts self.new ≡ true → (payloads pieces : List (List ℕ)) → packed.now.list ≡ packed_of (packed_generation packed.now.list) pieces
-            → Keeps self.old payloads → MayKeep self.new payloads pieces }
+        ensures repacks { Repacks self.old self.new result (packed_generation packed.now.list) packed.now.list }
         ensures full { (result ≡ Err (CommitFault.Full (free_of (place_of self.old)))) ↔ ((place_of self.old).half ≤ length packed.now.list) }
         ensures full_alone { (free : ℕ) → result ≡ Err (CommitFault.Full free) → self.new ≡ self.old }
         ensures full_free { (free : ℕ) → result ≡ Err (CommitFault.Full free) → free ≡ free_of (place_of self.old) }
@@ -76,15 +53,7 @@ impl<D: Disk> Journal<D> {
         requires settled { doubts self.old ≡ false }
         requires long { 9 ≤ length packed.now }
         requires above { self.old.generation < generation }
-        ensures place { OnOk result (place_of self.new ≡ packed_place (place_of self.old) generation (length packed.now - 9)) }
-        ensures place_err { OnErr result (place_of self.new ≡ place_of self.old) }
-        ensures any_moment { (payloads pieces : List (List ℕ)) → packed.now ≡ packed_of generation pieces → Keeps self.old payloads
-            → LeavesOnly ⟦<D as Disk>⟧ (disk_of self.old) (disk_of self.new) (IsEither self.old.half payloads pieces) }
-        ensures kept { OnOk result ((payloads pieces : List (List ℕ)) → packed.now ≡ packed_of generation pieces → Keeps self.old payloads → Keeps self.new pieces) }
-        ensures settled { OnOk result (doubts self.new ≡ false) }
-        ensures clear { OnErr result (doubts self.new ≡ false → (payloads : List (List ℕ)) → Keeps self.old payloads → Keeps self.new payloads) }
-        ensures doubt { doubts self.new ≡ true → (payloads pieces : List (List ℕ)) → packed.now ≡ packed_of generation pieces → Keeps self.old payloads
-            → MayKeep self.new payloads pieces }
+        ensures repacks { Repacks self.old self.new result generation packed.now }
         ensures full { (result ≡ Err (CommitFault.Full (free_of (place_of self.old)))) ↔ (self.old.half ≤ length packed.now) }
         ensures full_alone { (free : ℕ) → result ≡ Err (CommitFault.Full free) → self.new ≡ self.old }
         ensures full_free { (free : ℕ) → result ≡ Err (CommitFault.Full free) → free ≡ free_of (place_of self.old) }
@@ -97,21 +66,16 @@ impl<D: Disk> Journal<D> {
         if let Err(DiskFault) = self.shut_other() {
             return Err(CommitFault::DiskFault);
         }
-        match self.open_packed(packed, generation) {
-            Ok(()) => Ok(()),
-            Err(DiskFault) => Err(CommitFault::DiskFault),
-        }
+        self.open_packed(packed, generation)
     }
 
     // Closes the gate of the other half, unless it is known to be closed.
     fn shut_other(&mut self) -> Result<(), DiskFault>
         ensures place { place_of self.new ≡ place_of self.old }
-        ensures open { self.new.is_open ≡ self.old.is_open }
         ensures doubt { self.new.doubt ≡ self.old.doubt }
         ensures shut { OnOk result (self.new.may_open ≡ false) }
-        ensures kept { (payloads : List (List ℕ)) → Keeps self.old payloads → Keeps self.new payloads }
-        ensures any_moment { (payloads : List (List ℕ)) → Keeps self.old payloads
-            → LeavesOnly ⟦<D as Disk>⟧ self.old.disk self.new.disk (λ image. StandsFor image self.old.half payloads) }
+        ensures crash { (payloads : List (List ℕ)) → Keeps self.old payloads
+            → Keeps self.new payloads × LeavesOnly ⟦<D as Disk>⟧ self.old.disk self.new.disk (λ image. StandsFor image self.old.half payloads) }
         ensures failed { OnErr result (Rose (D.faults self.old.disk) (D.faults self.new.disk)) }
         ensures faults { OnOk result (D.faults self.new.disk ≡ D.faults self.old.disk) }
     {
@@ -119,34 +83,27 @@ impl<D: Disk> Journal<D> {
             return Ok(());
         }
         let place = self.other_place();
-        write_synced(&mut self.disk, place, &[0])?;
+        write_step(&mut self.disk, place, &[0])?;
         self.may_open = false;
         Ok(())
     }
 
     // Writes packed pieces behind the closed gate of the other half, and opens it.
-    fn open_packed(&mut self, packed: &[u8], generation: u64) -> Result<(), DiskFault>
+    fn open_packed(&mut self, packed: &[u8], generation: u64) -> Result<(), CommitFault>
         requires shut { self.old.may_open ≡ false }
         requires settled { doubts self.old ≡ false }
         requires long { 9 ≤ length packed.now }
         requires fits { length packed.now < self.old.half }
         requires above { self.old.generation < generation }
-        ensures place { OnOk result (place_of self.new ≡ packed_place (place_of self.old) generation (length packed.now - 9)) }
-        ensures place_err { OnErr result (place_of self.new ≡ place_of self.old) }
-        ensures any_moment { (payloads pieces : List (List ℕ)) → packed.now ≡ packed_of generation pieces → Keeps self.old payloads
-            → LeavesOnly ⟦<D as Disk>⟧ self.old.disk self.new.disk (IsEither self.old.half payloads pieces) }
-        ensures kept { OnOk result ((payloads pieces : List (List ℕ)) → packed.now ≡ packed_of generation pieces → Keeps self.old payloads → Keeps self.new pieces) }
-        ensures settled { OnOk result (doubts self.new ≡ false) }
-        ensures clear { OnErr result (doubts self.new ≡ false → (payloads : List (List ℕ)) → Keeps self.old payloads → Keeps self.new payloads) }
-        ensures doubt { doubts self.new ≡ true → (payloads pieces : List (List ℕ)) → packed.now ≡ packed_of generation pieces → Keeps self.old payloads
-            → MayKeep self.new payloads pieces }
+        ensures repacks { Repacks self.old self.new result generation packed.now }
+        ensures never_full { (free : ℕ) → result ≡ Err (CommitFault.Full free) → ⊥ }
         ensures failed { OnErr result (Rose (D.faults self.old.disk) (D.faults self.new.disk)) }
         ensures faults { OnOk result (D.faults self.new.disk ≡ D.faults self.old.disk) }
     {
         let place = self.other_place();
-        write_synced(&mut self.disk, place + 1, packed)?;
+        write_step(&mut self.disk, place + 1, packed)?;
         self.doubt = Doubt::Half;
-        write_synced(&mut self.disk, place, &[1])?;
+        write_step(&mut self.disk, place, &[1])?;
         self.doubt = Doubt::Nothing;
         self.may_open = self.is_open;
         self.is_open = true;

@@ -3,6 +3,7 @@ ghost use Rattle.std.specs.Prelude.{◌≡◌, ◌+◌, ◌*◌, ◌^◌, ◌<�
 ghost use Rattle.gate_journal.specs.Half.{base_of, other_base, free_of};
 ghost use Rattle.gate_journal.specs.Doubt.{doubt_place};
 
+use crate::Position;
 use crate::doubt::Doubt;
 use lti_outside::Disk;
 
@@ -27,12 +28,26 @@ pub struct Journal<D: Disk> {
 
 impl<D: Disk> Journal<D> {
     ghost use Rattle.gate_journal.specs.Journal.{disk_of, place_of, doubts};
+    ghost use Rattle.gate_journal.specs.Position.{place_at};
 
     /// How many calls of the disk have failed.
     pub fn faults(&self) -> u64
         ensures { result ≡ D.faults (disk_of self.now) }
     {
         self.disk.faults()
+    }
+
+    /// Where the journal stands. A commit moves the end gate behind its piece, a compaction goes over to the
+    /// other half, and no other call moves it.
+    pub fn position(&self) -> Position
+        ensures { place_at result ≡ place_of self.now }
+    {
+        Position {
+            half: self.half,
+            second: self.is_second,
+            generation: self.generation,
+            gate: self.gate,
+        }
     }
 
     /// The generation of the current half, which counts compactions.

@@ -17,10 +17,12 @@ mod laws;
 mod mount;
 mod mount_fault;
 mod piece;
+mod position;
 mod reading;
 mod repair;
 #[cfg(test)]
 mod tests;
+mod write;
 
 pub use commit_fault::CommitFault;
 pub use frames::{frame, pack};
@@ -28,3 +30,4 @@ pub use journal::Journal;
 pub use laws::{kept_images, one_damage, one_reading};
 pub use mount_fault::{MountFault, Unmounted};
 pub use piece::Piece;
+pub use position::Position;

@@ -1,12 +1,12 @@
 // Mounting: what stands on a disk.
-ghost use Rattle.std.specs.Prelude.{◌≡◌, ◌+◌, ◌*◌, ◌^◌, ◌<◌, ◌≤◌, ℕ, List, false, length, map, if◌then◌else◌, IfOk, IfErr, IsErr, IsErrAnd, OnOk, OnErr};
+ghost use Rattle.std.specs.Prelude.{◌≡◌, ◌⊎◌, ◌+◌, ◌*◌, ◌^◌, ◌<◌, ◌≤◌, ℕ, List, false, length, map, if◌then◌else◌, IfOk, IfErr, IsErr, IsErrAnd, OnOk, OnErr};
 ghost use Rattle.lti_outside.specs.Faults.{Rose};
 ghost use Rattle.lti_outside.specs.Disk.{Only};
 ghost use Rattle.lti_outside.specs.DiskMoments.{LeavesOnly, OnlyReads};
-ghost use Rattle.gate_journal.specs.Half.{base_of, Recovers, IsDamagedAt};
+ghost use Rattle.gate_journal.specs.Half.{base_of, Recovers, StandsFor, IsDamagedAt};
 ghost use Rattle.gate_journal.specs.Doubt.{HasHeads, Stands};
 ghost use Rattle.gate_journal.specs.Pieces.{payloads_of, places_from};
-ghost use Rattle.gate_journal.specs.Read.{place_read};
+ghost use Rattle.gate_journal.specs.Read.{place_read, IsHindrance};
 ghost use Rattle.gate_journal.specs.declared.mount_fault.MountFault.TheVariants.{TooSmall, Damaged, DiskFault};
 
 use crate::doubt::Doubt;
@@ -87,6 +87,13 @@ impl<D: Disk> Journal<D> {
         ensures small_only { IfErr result (λ u. (size : ℕ) → u.fault ≡ MountFault.TooSmall size → length (D.seen disk) < 2 * half) }
         ensures damaged { D.tells → IfErr result (λ u. (at : ℕ) → u.fault ≡ MountFault.Damaged at → IsDamagedAt (D.seen disk) half at) }
         ensures refused { D.tells → (at : ℕ) → IsDamagedAt (D.seen disk) half at → IsErr result }
+
+        // Where no call of the disk failed and memory sufficed, a disk that stands for payloads is mounted,
+        // and a damaged one is answered by the place of its damage.
+        ensures mounted { D.tells → 2 * half ≤ length (D.seen disk) → (payloads : List (List ℕ)) → StandsFor (D.seen disk) half payloads
+            → IfErr result (λ u. IsHindrance u.fault) }
+        ensures damaged_at { D.tells → 2 * half ≤ length (D.seen disk) → (at : ℕ) → IsDamagedAt (D.seen disk) half at
+            → IfErr result (λ u. (u.fault ≡ MountFault.Damaged at) ⊎ IsHindrance u.fault) }
         ensures failed { IfErr result (λ u. u.fault ≡ MountFault.DiskFault → Rose (D.faults disk) (D.faults u.disk)) }
     {
         let mut disk = disk;

@@ -6,7 +6,8 @@ ghost use Rattle.gate_journal.specs.Half.{IsEither};
 
 use crate::Journal;
 use crate::doubt::Doubt;
-use lti_outside::{Disk, DiskFault, write_synced};
+use crate::write::write_step;
+use lti_outside::{Disk, DiskFault};
 
 impl<D: Disk> Journal<D> {
     ghost use Rattle.gate_journal.specs.Journal.{disk_of, place_of, doubts, Keeps, MayKeep};
@@ -35,7 +36,7 @@ impl<D: Disk> Journal<D> {
             return Ok(());
         }
         let gate = self.doubtful_place();
-        write_synced(&mut self.disk, gate, &[0])?;
+        write_step(&mut self.disk, gate, &[0])?;
         self.doubt = Doubt::Nothing;
         Ok(())
     }

@@ -1,5 +1,4 @@
 pub mod TextLemmas
 pub mod RowLemmas
 pub mod PlacedLemmas
-pub mod IssuedLemmas
 pub mod BookLemmas

@@ -1,12 +1,13 @@
 -- What the table of launches tells, by its look-ups, and what a launch changes.
-use Rattle.std.proofs.Common.{◌≡◌, ℕ, Bool, true, false, true≢false, cond, ◌&&◌, List, [], ◌∷◌, Option, Some, None, IsSome, Bor, refl, sym, ap, ◌∙◌, arith, bytes_eq, nat_eq, eq-eqb}
+use Rattle.std.proofs.Common.{◌≡◌, ℕ, Bool, true, false, true≢false, cond, ◌&&◌, List, [], ◌∷◌, Option, Some, None, IsSome, Bor, refl, sym, ◌∙◌, arith, bytes_eq, nat_eq, eq-eqb}
 use Rattle.std.specs.Map.{lookup}
 use Rattle.std.specs.Option.{option_map, option_copied}
 use Rattle.std.proofs.lemmas.Bool.{and_parts, and_from, cond_both}
 use Rattle.indexmap.specs.IndexMap.{insert_entry}
-use Rattle.gradebook.specs.Book.{PlacedValue, is_placed, placement_in}
+use Rattle.lti_machine.specs.Placements.{placement_in, put_by, same_place}
+use Rattle.lti_machine.proofs.PlacedLemmas.{IsPlaced, placed_parts}
 use Rattle.gradebook.specs.Texts.{text_at, IsKnown, Keeps}
-use Rattle.gradebook.specs.Tables.{placement_of, all_eq, placed_at, all_placed_at, ArePlacedWithin, IsLaunchNumber, is_launch_number, put_placed}
+use Rattle.gradebook.specs.Tables.{placement_of, all_eq, placed_at, all_placed_at, ArePlacedWithin, IsLaunchNumber, is_launch_number}
 use Rattle.gradebook.specs.declared.placements.Target.{Target}
 use Rattle.gradebook.proofs.TextLemmas.{same_bytes, bytes_same}
 
@@ -55,18 +56,21 @@ module _ (texts : List (List ℕ)) (key link user : List ℕ) where
 
   module _ (p : ℕ × ℕ × ℕ) (is : IsLaunchNumber texts key link user (Some p)) (target : Target) where
     pub put_placed-at : (es : List ((ℕ × ℕ × ℕ) × Target)) → ArePlacedWithin texts es
-        → all_placed_at texts (insert_entry all_eq es p target) ≡ put_placed (all_placed_at texts es) (record { key = key; link = link; user = user; placement = placement_of target })
+        → all_placed_at texts (insert_entry all_eq es p target) ≡ put_by same_place (all_placed_at texts es) (record { key = key; link = link; user = user; placement = placement_of target })
     put_placed-at [] within =
         let own = launch_texts p is in
         λ i. record { key = own.of_key i; link = own.of_link i; user = own.of_user i; placement = placement_of target } ∷ []
     put_placed-at (e ∷ es) within =
         let test = is.only e.0 within.0 in
-        by (all_eq p e.0)
-        ∙ (λ i. cond (test i) (placed_at texts (e.0, target) ∷ all_placed_at texts es) (placed_at texts e ∷ put_placed-at es within.1 i))
+        by (all_eq p e.0) (λ same. placed_parts key link user (placed_at texts e) (sym test ∙ same))
+        ∙ (λ i. cond (test i) (record { key = key; link = link; user = user; placement = placement_of target } ∷ all_placed_at texts es) (placed_at texts e ∷ put_placed-at es within.1 i))
       where
-        by : (b : Bool) → all_placed_at texts (cond b ((e.0, target) ∷ es) (e ∷ insert_entry all_eq es p target)) ≡ cond b (placed_at texts (e.0, target) ∷ all_placed_at texts es) (placed_at texts e ∷ all_placed_at texts (insert_entry all_eq es p target))
-        by true = refl
-        by false = refl
+        by : (b : Bool) → (b ≡ true → IsPlaced key link user (placed_at texts e))
+            → all_placed_at texts (cond b ((e.0, target) ∷ es) (e ∷ insert_entry all_eq es p target)) ≡ cond b (record { key = key; link = link; user = user; placement = placement_of target } ∷ all_placed_at texts es) (placed_at texts e ∷ all_placed_at texts (insert_entry all_eq es p target))
+        by true own =
+            let parts = own refl in
+            λ i. record { key = sym parts.same_key i; link = sym parts.same_link i; user = sym parts.same_user i; placement = placement_of target } ∷ all_placed_at texts es
+        by false own = refl
 
     pub put_within : (es : List ((ℕ × ℕ × ℕ) × Target)) → ArePlacedWithin texts es → ArePlacedWithin texts (insert_entry all_eq es p target)
     put_within [] within = (is.within, tt)
@@ -92,47 +96,3 @@ placed_stay_within before after keeps (e ∷ es) within = (
   (omega (arith, within.0.0, keeps.longer), omega (arith, within.0.1, keeps.longer), omega (arith, within.0.2, keeps.longer)),
   placed_stay_within before after keeps es within.1,
 )
-
--- ---- one more placement
-
-again : {A : Type 0} (b : Bool) (x y z : A) → cond b x z ≡ cond b x (cond b y z)
-again true x y z = refl
-again false x y z = refl
-
-apart : {A : Type 0} (b c : Bool) (x y z : A) → (b ≡ true → c ≡ true → ⊥) → cond b y (cond c x z) ≡ cond c x (cond b y z)
-apart true true x y z never = absurd (never refl refl)
-apart true false x y z never = refl
-apart false true x y z never = refl
-apart false false x y z never = refl
-
--- the same key, link and user
-record IsPlaced (key link user : List ℕ) (p : PlacedValue) : Type 0 where
-  same_key : key ≡ p.key
-  same_link : link ≡ p.link
-  same_user : user ≡ p.user
-
-placed_parts : (key link user : List ℕ) (p : PlacedValue) → is_placed key link user p ≡ true → IsPlaced key link user p
-placed_parts key link user p test =
-    let parts = and_parts (bytes_eq key p.key && bytes_eq link p.link) (bytes_eq user p.user) test in
-    let pair = and_parts (bytes_eq key p.key) (bytes_eq link p.link) parts.0 in
-    record { same_key = same_bytes _ _ pair.0; same_link = same_bytes _ _ pair.1; same_user = same_bytes _ _ parts.1 }
-
--- a look-up after a placement was put
-pub placement_in-put : (ps : List PlacedValue) (n : PlacedValue) (key link user : List ℕ) → placement_in (put_placed ps n) key link user ≡ cond (is_placed key link user n) (Some n.placement) (placement_in ps key link user)
-placement_in-put [] n key link user = refl
-placement_in-put (p ∷ ps) n key link user =
-    let asks = is_placed key link user in
-    let rest = placement_in ps key link user in
-    cond_both (is_placed n.key n.link n.user p) (record p { placement = n.placement } ∷ ps) (p ∷ put_placed ps n) (λ x. placement_in x key link user ≡ cond (asks n) (Some n.placement) (placement_in (p ∷ ps) key link user))
-    (λ same.
-    let own = placed_parts n.key n.link n.user p same in
-    let test : asks n ≡ asks p = λ i. bytes_eq key (own.same_key i) && bytes_eq link (own.same_link i) && bytes_eq user (own.same_user i) in
-    ap (λ b. cond b (Some n.placement) rest) (sym test)
-    ∙ again (asks n) (Some n.placement) (Some p.placement) rest
-    ∙ ap (λ b. cond (asks n) (Some n.placement) (cond b (Some p.placement) rest)) test)
-    (λ other.
-    ap (cond (asks p) (Some p.placement)) (placement_in-put ps n key link user)
-    ∙ apart (asks p) (asks n) (Some n.placement) (Some p.placement) rest (λ at_p at_n.
-    let of_p = placed_parts key link user p at_p in
-    let of_n = placed_parts key link user n at_n in
-    true≢false (sym (and_from _ _ (and_from _ _ (bytes_same _ _ (sym of_n.same_key ∙ of_p.same_key)) (bytes_same _ _ (sym of_n.same_link ∙ of_p.same_link))) (bytes_same _ _ (sym of_n.same_user ∙ of_p.same_user))) ∙ other)))

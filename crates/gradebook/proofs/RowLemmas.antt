@@ -6,9 +6,10 @@ use Rattle.std.proofs.lemmas.List.{map-append}
 use Rattle.std.proofs.lemmas.Option.{none-some}
 use Rattle.lti_machine.specs.declared.standing.Standing.{Standing}
 use Rattle.lti_machine.specs.declared.standing.Standing.TheVariants.{Unknown}
-use Rattle.gradebook.specs.Book.{standing_in}
+use Rattle.lti_machine.specs.Rows.{standing_in}
 use Rattle.gradebook.specs.Texts.{text_at, IsKnown, Keeps}
-use Rattle.gradebook.specs.Tables.{row_at, rows_at, both_eq, IsOwnedWithin, AreRowsWithin, IsOwnedNumber, is_owned_number, has_row, set_row}
+use Rattle.gradebook.specs.Tables.{row_at, rows_at, both_eq, IsOwnedWithin, AreRowsWithin, IsOwnedNumber, is_owned_number}
+use Rattle.lti_machine.specs.Rows.{has_row, set_row}
 use Rattle.gradebook.proofs.TextLemmas.{same_bytes, bytes_same}
 
 unwrap_cond : {A : Type 0} (b : Bool) (x d : A) (o : Option A) → cond b x (unwrap_or o d) ≡ unwrap_or (cond b (Some x) o) d

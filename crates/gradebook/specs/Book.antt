@@ -1,21 +1,12 @@
 -- What a book is to whoever calls it, and which lists of accepted entries it holds.
-use Rattle.std.specs.Prelude.{◌≡◌, ◌<◌, ℕ, Bool, ◌&&◌, ⊤, List, [], ◌∷◌, ◌++◌, Option, Some, None, bytes_eq, if◌then◌else◌}
+use Rattle.std.specs.Prelude.{◌≡◌, ◌<◌, ℕ, ⊤, List, [], ◌∷◌, ◌++◌}
 use Rattle.lti_machine.specs.declared.entry.Entry.{Entry}
 use Rattle.lti_machine.specs.declared.entry.Effect.{Effect}
 use Rattle.lti_machine.specs.declared.entry.Effect.TheVariants as effect
-use Rattle.lti_machine.specs.declared.standing.Standing.{Standing}
-use Rattle.lti_machine.specs.declared.standing.Standing.TheVariants.{Unknown}
 use Rattle.lti_machine.specs.Standings.{standing}
-use Rattle.gradebook.specs.Rows.{RowValue, rows_of}
-use Rattle.gradebook.specs.Placements.{PlacementValue, placement}
+use Rattle.lti_machine.specs.Rows.{RowValue, rows_of, standing_in}
+use Rattle.lti_machine.specs.Placements.{PlacedValue, placed_of, placement, placement_in}
 use Rattle.gradebook.specs.Texts.{IsKnown}
-
--- the placement of a key's link and user
-pub record PlacedValue : Type 0 where
-  pub key : List ℕ
-  pub link : List ℕ
-  pub user : List ℕ
-  pub placement : PlacementValue
 
 -- What a book is. What it tells is a list, in which it is looked up, since a value is data and no function.
 pub record BookValue : Type 0 where
@@ -29,28 +20,11 @@ pub record BookValue : Type 0 where
   pub row_room : ℕ
   pub placed_room : ℕ
 
--- the row of this id under this key
-abbrev pub is_row : List ℕ → List ℕ → RowValue → Bool
-is_row key id row = bytes_eq key row.key && bytes_eq id row.id
-
--- how an id stands under a key, by these rows
-abbrev pub standing_in : List RowValue → List ℕ → List ℕ → Standing
-standing_in [] key id = Unknown
-standing_in (row ∷ rows) key id = if is_row key id row then row.standing else standing_in rows key id
-
--- the placement of this key, link and user
-abbrev pub is_placed : List ℕ → List ℕ → List ℕ → PlacedValue → Bool
-is_placed key link user placed = bytes_eq key placed.key && bytes_eq link placed.link && bytes_eq user placed.user
-
--- where the grade of a key's link and user goes, by these placements
-abbrev pub placement_in : List PlacedValue → List ℕ → List ℕ → List ℕ → Option PlacementValue
-placement_in [] key link user = None
-placement_in (p ∷ ps) key link user = if is_placed key link user p then Some p.placement else placement_in ps key link user
-
 -- the book tells what all these entries say
 pub record Holds (book : BookValue) (entries : List Entry) : Type 0 where
   pub rows : book.rows ≡ rows_of entries
   pub standing : (key id : List ℕ) → standing_in book.rows key id ≡ standing entries key id
+  pub placed : book.placed ≡ placed_of entries
   pub placement : (key link user : List ℕ) → placement_in book.placed key link user ≡ placement entries key link user
 
 -- each list held before is held after with this entry behind it
@@ -61,6 +35,7 @@ Adds before after entry = (entries : List Entry) → Holds before entries → Ho
 pub record SameContents (before after : BookValue) : Type 0 where
   pub rows : after.rows ≡ before.rows
   pub standing : (key id : List ℕ) → standing_in after.rows key id ≡ standing_in before.rows key id
+  pub placed : after.placed ≡ before.placed
   pub placement : (key link user : List ℕ) → placement_in after.placed key link user ≡ placement_in before.placed key link user
 
 -- there is room for one more id under this key

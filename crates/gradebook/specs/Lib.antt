@@ -1,5 +1,3 @@
-pub mod Rows
-pub mod Placements
 pub mod Book
 pub mod Texts
 pub mod Tables

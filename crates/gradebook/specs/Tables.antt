@@ -1,10 +1,9 @@
 -- The tables that a book keeps in place of the entries, and what they tell. Their keys are numbers of texts.
-use Rattle.std.specs.Prelude.{◌≡◌, ◌<◌, ℕ, Bool, false, ◌&&◌, List, [], ◌∷◌, ◌++◌, map, length, Option, Some, None, IfSome, bytes_eq, nat_eq, if◌then◌else◌}
-use Rattle.std.specs.List.{list_any, AllByRecursion}
+use Rattle.std.specs.Prelude.{◌≡◌, ◌<◌, ℕ, Bool, false, ◌&&◌, List, map, length, Option, Some, None, IfSome, bytes_eq, nat_eq}
+use Rattle.std.specs.List.{AllByRecursion}
 use Rattle.lti_machine.specs.declared.standing.Standing.{Standing}
-use Rattle.gradebook.specs.Rows.{RowValue}
-use Rattle.gradebook.specs.Placements.{PlacementValue}
-use Rattle.gradebook.specs.Book.{PlacedValue, is_row, is_placed}
+use Rattle.lti_machine.specs.Rows.{RowValue}
+use Rattle.lti_machine.specs.Placements.{PlacementValue, PlacedValue}
 use Rattle.gradebook.specs.Texts.{text_at}
 use Rattle.gradebook.specs.declared.placements.Target.{Target}
 
@@ -35,20 +34,6 @@ is_owned_number (Some q) p = both_eq q p
 pub record IsOwnedNumber (texts : List (List ℕ)) (key id : List ℕ) (numbers : Option (ℕ × ℕ)) : Type 0 where
   pub within : IfSome numbers (IsOwnedWithin texts)
   pub only : (p : ℕ × ℕ) → IsOwnedWithin texts p → is_owned_number numbers p ≡ (bytes_eq key (text_at texts p.0) && bytes_eq id (text_at texts p.1))
-
--- there is a row of this id under this key
-abbrev pub has_row : List RowValue → List ℕ → List ℕ → Bool
-has_row rows key id = list_any (is_row key id) rows
-
--- the row of the id, where there is one, has this standing
-abbrev pub set_row : List RowValue → List ℕ → List ℕ → Standing → List RowValue
-set_row [] key id standing = []
-set_row (row ∷ rows) key id standing =
-    if is_row key id row then record row { standing = standing } ∷ rows else row ∷ set_row rows key id standing
-
--- the id has a row, which is new at the end where it had none
-abbrev pub add_row : List RowValue → RowValue → List RowValue
-add_row rows row = if has_row rows row.key row.id then rows else rows ++ row ∷ []
 
 -- ---- the placements
 
@@ -85,9 +70,3 @@ is_launch_number (Some q) p = all_eq q p
 pub record IsLaunchNumber (texts : List (List ℕ)) (key link user : List ℕ) (numbers : Option (ℕ × ℕ × ℕ)) : Type 0 where
   pub within : IfSome numbers (IsLaunchWithin texts)
   pub only : (p : ℕ × ℕ × ℕ) → IsLaunchWithin texts p → is_launch_number numbers p ≡ (bytes_eq key (text_at texts p.0) && bytes_eq link (text_at texts p.1) && bytes_eq user (text_at texts p.2))
-
--- the placement of the key's link and user is this one, which is new at the end where they had none
-abbrev pub put_placed : List PlacedValue → PlacedValue → List PlacedValue
-put_placed [] new = new ∷ []
-put_placed (placed ∷ rest) new =
-    if is_placed new.key new.link new.user placed then record placed { placement = new.placement } ∷ rest else placed ∷ put_placed rest new

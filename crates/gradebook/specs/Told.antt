@@ -1,6 +1,6 @@
 -- What an answer with borrowed texts says.
-use Rattle.gradebook.specs.Rows.{RowValue}
-use Rattle.gradebook.specs.Placements.{PlacementValue}
+use Rattle.lti_machine.specs.Rows.{RowValue}
+use Rattle.lti_machine.specs.Placements.{PlacementValue}
 use Rattle.gradebook.specs.declared.row.Row.{Row}
 use Rattle.gradebook.specs.declared.placement.Placement.{Placement}
 

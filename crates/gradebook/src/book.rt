@@ -7,10 +7,12 @@ ghost use Rattle.lti_machine.specs.Belongs.{belongs};
 ghost use Rattle.lti_machine.specs.Rules as rules;
 ghost use Rattle.lti_machine.specs.Standings as standings;
 ghost use Rattle.gradebook.specs.Book.{Holds, Adds, SameContents, IsReady, IsReadyToIssue, IsReadyToPlace};
-ghost use Rattle.gradebook.specs.Rows.{rows_of};
-ghost use Rattle.gradebook.specs.Placements as placements;
+ghost use Rattle.lti_machine.specs.Rows.{rows_of};
+ghost use Rattle.lti_machine.specs.Placements as placements;
 ghost use Rattle.gradebook.specs.Told.{row_told, placement_told};
-ghost use Rattle.gradebook.specs.Tables.{set_row, add_row, placement_of, put_placed};
+ghost use Rattle.gradebook.specs.Tables.{placement_of};
+ghost use Rattle.lti_machine.specs.Rows.{set_row, add_row};
+ghost use Rattle.lti_machine.specs.Placements.{put_by, same_place};
 
 use crate::placement::Placement;
 use crate::placements::{self, Placements, Target};
@@ -140,7 +142,7 @@ impl Gradebook {
     fn place(&mut self, key: &str, link: &str, user: &str, target: Target)
         requires { IsReadyToPlace self.old key.now link.now user.now }
         ensures rows { self.new.rows ≡ self.old.rows }
-        ensures placed { self.new.placed ≡ put_placed self.old.placed (record { key = key.now; link = link.now; user = user.now; placement = placement_of target }) }
+        ensures placed { self.new.placed ≡ put_by same_place self.old.placed (record { key = key.now; link = link.now; user = user.now; placement = placement_of target }) }
     {
         placements::place(&self.texts, &mut self.placements, key, link, user, target);
     }

@@ -17,7 +17,7 @@ mod tests;
 mod texts;
 
 pub use book::Gradebook;
-pub use laws::unknown_is_not_issued;
+pub use laws::{holds_alike, unknown_is_not_issued};
 pub use lti_machine::Standing;
 pub use placement::Placement;
 pub use row::Row;

@@ -2,9 +2,10 @@
 ghost use Rattle.std.specs.Prelude.{◌≡◌, ◌<◌, OnOk};
 ghost use Rattle.std.specs.Option.{option_map};
 ghost use Rattle.indexmap.specs.IndexMap.{spare};
-ghost use Rattle.gradebook.specs.Book.{placement_in};
+ghost use Rattle.lti_machine.specs.Placements.{placement_in};
 ghost use Rattle.gradebook.specs.Texts.{IsKnown, Keeps};
-ghost use Rattle.gradebook.specs.Tables.{placement_of, all_placed_at, ArePlacedWithin, IsLaunchNumber, put_placed};
+ghost use Rattle.gradebook.specs.Tables.{placement_of, all_placed_at, ArePlacedWithin, IsLaunchNumber};
+ghost use Rattle.lti_machine.specs.Placements.{put_by, same_place};
 
 use crate::texts::Texts;
 use indexmap::IndexMap;
@@ -82,7 +83,7 @@ pub(crate) fn place(
     requires user { IsKnown texts.now user.now }
     requires room { 0 < spare placements.old }
     ensures within { ArePlacedWithin texts.now placements.new.entries }
-    ensures placed { all_placed_at texts.now placements.new.entries ≡ put_placed (all_placed_at texts.now placements.old.entries) (record { key = key.now; link = link.now; user = user.now; placement = placement_of target }) }
+    ensures placed { all_placed_at texts.now placements.new.entries ≡ put_by same_place (all_placed_at texts.now placements.old.entries) (record { key = key.now; link = link.now; user = user.now; placement = placement_of target }) }
 {
     let numbers = numbers_of(texts, key, link, user).unwrap();
     placements.insert(numbers, target).unwrap();

@@ -1,5 +1,5 @@
 -- Which bytes stand in the parts of a written request.
-use Rattle.std.proofs.Common.{◌≡◌, ℕ, suc, ◌+◌, ◌-◌, ◌<◌, ◌≤◌, ◌^◌, ◌==◌, ◌&&◌, ◌||◌, not, leb, Bool, true, false, cond, List, [], ◌∷◌, ◌++◌, length, get_or, take, drop, map, reverse, refl, sym, ap, ◌∙◌, subst, arith, ⊎_elim, length-take}
+use Rattle.std.proofs.Common.{◌≡◌, ℕ, suc, ◌+◌, ◌-◌, ◌<◌, ◌≤◌, ◌^◌, ◌==◌, ◌&&◌, not, leb, Bool, true, false, cond, List, [], ◌∷◌, ◌++◌, length, get_or, take, drop, map, reverse, refl, sym, ap, ◌∙◌, subst, arith, ⊎_elim, length-take}
 use Rattle.std.specs.Prelude.{decimal}
 use Rattle.std.specs.Char.{to_ascii_lowercase, is_ascii_digit, is_ascii_uppercase, digit_value}
 use Rattle.std.specs.List.{list_all, list_any, position_or_len, before_first, after_first}
@@ -20,6 +20,7 @@ use Rattle.http_wire.specs.Taking.{HasNoLineFeed}
 use Rattle.http_wire.specs.Headers.{is_text_byte, is_length}
 use Rattle.http_wire.specs.Head.{is_target_byte, is_target}
 use Rattle.http_wire.specs.Written.{query_text, is_path, is_media_byte}
+use Rattle.http_wire.proofs.HeaderLemmas.{neither}
 use Rattle.http_wire.proofs.BackHost.{and_join, is_byte, whole}
 
 -- a byte from 0x21 to 0x7E
@@ -130,7 +131,7 @@ closed_visible rest test =
 name_bytes_visible : (name : List ℕ) → is_host_name name ≡ true → list_all is_visible name ≡ true
 name_bytes_visible name test =
     ⊎_elim
-    (λ plain. all_weaker is_name_byte is_visible name_visible name (and_split (leb 1 (length name) && leb (length name) 255) (list_all is_name_byte name) plain).1)
+    (λ plain_name. all_weaker is_name_byte is_visible name_visible name (and_split (leb 1 (length name) && leb (length name) 255) (list_all is_name_byte name) plain_name).1)
     (address name)
     (or_split (is_plain_name name) (is_address name) test)
   where
@@ -158,7 +159,7 @@ host_visible text test =
 digit_test : (b : ℕ) → digit_value b < 10 → is_ascii_digit b ≡ true
 digit_test b small = grind (arith, nat_tests)
 
-digits_test : (ds : List ℕ) → AllDigits 10 ds → list_all is_ascii_digit ds ≡ true
+pub digits_test : (ds : List ℕ) → AllDigits 10 ds → list_all is_ascii_digit ds ≡ true
 digits_test [] all = refl
 digits_test (b ∷ ds) all = and_join (is_ascii_digit b) _ (digit_test b all.0) (digits_test ds all.1)
 
@@ -180,10 +181,6 @@ pub decimal_visible : (n : ℕ) → n < 10 ^ 19 → list_all is_visible (decimal
 decimal_visible n small = all_weaker is_ascii_digit is_visible digit_visible (decimal n) (digits_test (decimal n) (decimal_is_IsNumeral_wide n (omega (arith, small))).0.1)
 
 -- the target is cut at its first `?`
-neither : (x y : Bool) → (x || y) ≡ false → (x ≡ false) × (y ≡ false)
-neither true y none = absurd (cc)
-neither false y none = (refl, none)
-
 one_more : (n : ℕ) → 1 + n ≡ suc n
 one_more n = omega arith
 

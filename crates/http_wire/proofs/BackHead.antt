@@ -25,7 +25,7 @@ use Rattle.http_wire.specs.Shape.{IsHead}
 use Rattle.http_wire.specs.Taking.{HasNoLineFeed}
 use Rattle.http_wire.specs.Lines.{line_ends, has_bare_line_feed, line_conditions}
 use Rattle.http_wire.specs.Headers.{is_same_text, values_of, count_of, first_in, is_none, is_text_byte, is_read_header, is_bad_header, has_bad_header, trim_end, media_in, is_encoding, is_closing, is_one_host, is_length, is_bad_length, length_in, has_body}
-use Rattle.http_wire.specs.Head.{Plain, plain_of, is_target, is_target_byte, part_conditions, request_of}
+use Rattle.http_wire.specs.Head.{HeadParts, head_parts_of, is_target, is_target_byte, part_conditions, request_of}
 use Rattle.http_wire.specs.Message.{RequestParts}
 use Rattle.http_wire.specs.Response.{length_line}
 use Rattle.http_wire.specs.Written.{query_text, version_text, request_line, host_text, value_line, request_head, is_trimmed, is_media_byte, IsSoundRequest}
@@ -264,8 +264,8 @@ headers_with host media authorization digits =
 abbrev pub headers_of : RequestParts → List (List ℕ × List ℕ)
 headers_of parts = headers_with (host_text parts.host_name parts.host_port) parts.media parts.authorization (decimal (length parts.body))
 
-abbrev pub written_plain : RequestParts → Plain
-written_plain parts = record { method = parts.method; target = target_of parts; minor = minor_of parts.close; headers = headers_of parts }
+abbrev pub written_head_parts : RequestParts → HeadParts
+written_head_parts parts = record { method = parts.method; target = target_of parts; minor = minor_of parts.close; headers = headers_of parts }
 
 -- a value with a space before it is read without the space
 value_read : (value : List ℕ) → skip_ows value ≡ value → trim_end value ≡ value → trim_ows (32 ∷ value) ≡ value
@@ -290,8 +290,8 @@ headers_read parts of =
     ∙ (λ i. (codes "Host", host_text parts.host_name parts.host_port) ∷ (media i ++ map-append name_and_value (optional_field (codes "Authorization") parts.authorization) last i))
     ∙ (λ i. (codes "Host", host_text parts.host_name parts.host_port) ∷ (optional_header (codes "Content-Type") parts.media ++ (authorization i ++ (codes "Content-Length", digits i) ∷ [])))
 
-pub plain_read : (parts : RequestParts) → Known parts → written_plain parts ≡ plain_of (head_of parts)
-plain_read parts of = λ i. record { method = parts.method; target = target_of parts; minor = minor_of parts.close; headers = sym (headers_read parts of) i }
+pub head_parts_read : (parts : RequestParts) → Known parts → written_head_parts parts ≡ head_parts_of (head_of parts)
+head_parts_read parts of = λ i. record { method = parts.method; target = target_of parts; minor = minor_of parts.close; headers = sym (headers_read parts of) i }
 
 -- ---- its headers, one after another
 
@@ -420,7 +420,7 @@ lines_fine limits parts of holds =
     (fault_free (starts_with nat_eq (request_head parts) (13 ∷ 10 ∷ [])) BadHead None
     (ap (λ xs. starts_with nat_eq xs (13 ∷ 10 ∷ [])) begins ∙ not_begun parts.method _ of.method of.some) refl))
 
-parts_fine : (limits : Limits) (parts : RequestParts) → Known parts → Holds limits parts → first_fault (part_conditions limits (written_plain parts)) ≡ None
+parts_fine : (limits : Limits) (parts : RequestParts) → Known parts → Holds limits parts → first_fault (part_conditions limits (written_head_parts parts)) ≡ None
 parts_fine limits parts of holds =
     let host = host_text parts.host_name parts.host_port in
     let digits = decimal (length parts.body) in
@@ -445,7 +445,7 @@ media_read media all end =
     let kept = media_kept media all in
     ap (λ m. map to_ascii_lowercase (trim_end m)) kept.0 ∙ ap (map to_ascii_lowercase) end ∙ kept.1
 
-parts_read : (parts : RequestParts) → Known parts → request_of (written_plain parts) parts.body ≡ parts
+parts_read : (parts : RequestParts) → Known parts → request_of (written_head_parts parts) parts.body ≡ parts
 parts_read parts of =
     let host = host_text parts.host_name parts.host_port in
     let digits = decimal (length parts.body) in
@@ -475,14 +475,14 @@ written_is_read limits parts sound holds =
     let lengths = lengths_in (host_text parts.host_name parts.host_port) parts.media parts.authorization (decimal (length parts.body)) in
     record {
       head = request_head parts;
-      plain = written_plain parts;
+      head_parts = written_head_parts parts;
       is_head = (is_written_head parts of).0;
       fits = holds.head;
       reads = record {
         lines = lines_fine limits parts of holds;
         parsed = head_of parts;
         reads = (is_request_head parts of, sym (append-nil (print_request (head_of parts)) ∙ head_text parts));
-        is = plain_read parts of;
+        is = head_parts_read parts of;
         parts = parts_fine limits parts of holds;
       };
       body = sym (ap length_in lengths ∙ (length_back (length parts.body) of.body).1);

@@ -14,6 +14,7 @@ use Rattle.oauth_text.specs.Host.{is_name_byte, is_address_byte, is_plain_name, 
 use Rattle.lti_outside.proofs.BoolLemmas.{and_split, or_split}
 use Rattle.lti_outside.proofs.DigitLemmas.{decimal_parts}
 use Rattle.http_wire.specs.Written.{port_text, host_text}
+use Rattle.http_wire.proofs.HeaderLemmas.{or_left, or_right}
 use Rattle.http_wire.proofs.NumberLemmas.{all_digits}
 
 pub is_byte : (b c : ℕ) → (b == c) ≡ true → b ≡ c
@@ -25,14 +26,6 @@ same_byte b c is = grind (arith, nat_tests)
 pub and_join : (x y : Bool) → x ≡ true → y ≡ true → (x && y) ≡ true
 and_join true y one other = other
 and_join false y one other = absurd (cc)
-
-or_left : (x y : Bool) → x ≡ true → (x || y) ≡ true
-or_left true y is = refl
-or_left false y is = absurd (cc)
-
-or_right : (x y : Bool) → y ≡ true → (x || y) ≡ true
-or_right true y is = refl
-or_right false y is = is
 
 pub implied : (x y : Bool) → (not x || y) ≡ true → x ≡ true → y ≡ true
 implied true y test is = test
@@ -106,8 +99,8 @@ all_lower f kept (b ∷ xs) all =
     let both = and_split (f b) (list_all f xs) all in
     and_join (f (to_ascii_lowercase b)) _ (kept b both.0) (all_lower f kept xs both.1)
 
-plain_lower : (xs : List ℕ) → is_plain_name xs ≡ true → is_plain_name (map to_ascii_lowercase xs) ≡ true
-plain_lower xs test =
+plain_name_lower : (xs : List ℕ) → is_plain_name xs ≡ true → is_plain_name (map to_ascii_lowercase xs) ≡ true
+plain_name_lower xs test =
     let both = and_split (leb 1 (length xs) && leb (length xs) 255) (list_all is_name_byte xs) test in
     and_join (leb 1 (length (map to_ascii_lowercase xs)) && leb (length (map to_ascii_lowercase xs)) 255) _
     (ap (λ n. leb 1 n && leb n 255) (length-map xs to_ascii_lowercase) ∙ both.0)
@@ -133,7 +126,7 @@ address_name_lower (b ∷ xs) test =
 
 host_name_lower : (xs : List ℕ) → is_host_name xs ≡ true → is_host_name (map to_ascii_lowercase xs) ≡ true
 host_name_lower xs test =
-    ⊎_elim (λ plain. or_left _ _ (plain_lower xs plain)) (λ address. or_right (is_plain_name (map to_ascii_lowercase xs)) _ (address_name_lower xs address)) (or_split (is_plain_name xs) (is_address xs) test)
+    ⊎_elim (λ name. or_left _ _ (plain_name_lower xs name)) (λ address. or_right (is_plain_name (map to_ascii_lowercase xs)) _ (address_name_lower xs address)) (or_split (is_plain_name xs) (is_address xs) test)
 
 own_digits : IsNumeralModel (AllDigits 10) (digits_value 10)
 own_digits = record { to = λ ds all. all; from = λ ds all. all; same = λ ds all. refl }

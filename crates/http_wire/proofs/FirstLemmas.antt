@@ -11,7 +11,7 @@ use Rattle.http_wire.specs.declared.fault.WireFault.{WireFault}
 use Rattle.http_wire.specs.declared.fault.WireFault.TheVariants.{CutShort}
 use Rattle.http_wire.specs.Shape.{HasNoHead}
 use Rattle.http_wire.specs.Conditions.{first_fault}
-use Rattle.http_wire.specs.Head.{Plain, part_conditions, plain_of, body_length, HeadReads, HeadFault}
+use Rattle.http_wire.specs.Head.{HeadParts, part_conditions, head_parts_of, body_length, HeadReads, HeadFault}
 use Rattle.http_wire.specs.Spelling.{HeadIn, EndsInBody, WireFaultOf, BeginsWithNone, FaultsAreFirst}
 use Rattle.http_wire.proofs.UniqueLemmas.{heads_unique, none_in_body}
 
@@ -38,23 +38,23 @@ head_fault_unique limits head f h a b =
             | inl q ↦ absurd (q.1 p.0 p.1)
             | inr q ↦
                 let same = request_unique head p.0 q.0 [] [] p.1 q.1 in
-                same_some _ f h p.2 (ap (λ (k : RequestHead). first_fault (part_conditions limits (plain_of k))) same.0 ∙ q.2)
+                same_some _ f h p.2 (ap (λ (k : RequestHead). first_fault (part_conditions limits (head_parts_of k))) same.0 ∙ q.2)
           ]
         ]
       ]
     ]
 
 -- a head with a fault says nothing
-fault_not_reads : (limits : Limits) (head : List ℕ) (f : WireFault) (plain : Plain) → HeadFault limits head f → HeadReads limits head plain → ⊥
-fault_not_reads limits head f plain a reads =
+fault_not_reads : (limits : Limits) (head : List ℕ) (f : WireFault) (head_parts : HeadParts) → HeadFault limits head f → HeadReads limits head head_parts → ⊥
+fault_not_reads limits head f head_parts a reads =
     elim a [
       | inl x ↦ not_both _ f x reads.lines
       | inr x ↦ elim x.1 [
         | inl p ↦ p.1 reads.parsed reads.reads
         | inr p ↦
             let same = request_unique head p.0 reads.parsed [] [] p.1 reads.reads in
-            not_both _ f p.2 (ap (λ (k : RequestHead). first_fault (part_conditions limits (plain_of k))) same.0
-            ∙ ap (λ (k : Plain). first_fault (part_conditions limits k)) (sym reads.is) ∙ reads.parts)
+            not_both _ f p.2 (ap (λ (k : RequestHead). first_fault (part_conditions limits (head_parts_of k))) same.0
+            ∙ ap (λ (k : HeadParts). first_fault (part_conditions limits k)) (sym reads.is) ∙ reads.parts)
       ]
     ]
 
@@ -149,7 +149,7 @@ excludes limits bytes fault is spelled rest parts spells begins =
         | inr y ↦ elim y.3 [
           | inl f ↦
               let same = (heads_unique y.0 spells.head y.1 (parts.body ++ rest) y.2.is_head spells.is_head (sym y.2.is ∙ stands.is)).0 in
-              fault_not_reads limits y.0 fault spells.plain f (subst (λ (k : List ℕ). HeadReads limits k spells.plain) (sym same) spells.reads)
+              fault_not_reads limits y.0 fault spells.head_parts f (subst (λ (k : List ℕ). HeadReads limits k spells.head_parts) (sym same) spells.reads)
           | inr f ↦ none_in_body limits bytes y.0 y.1 f.1.0 y.2 f.1.1 f.1.2 spelled rest parts spells begins
         ]
       ]

@@ -13,15 +13,15 @@ use Rattle.lti_outside.proofs.BoolLemmas.{and_split}
 use Rattle.http_wire.specs.Headers.{is_named, values_of, first_in, is_text_byte, is_body_header, is_read_header, is_bad_header, has_bad_header, is_one_host}
 use Rattle.http_wire.specs.Head.{is_target_byte, is_target}
 
-neither : (x y : Bool) → (x || y) ≡ false → (x ≡ false) × (y ≡ false)
+pub neither : (x y : Bool) → (x || y) ≡ false → (x ≡ false) × (y ≡ false)
 neither true y none = absurd (cc)
 neither false y none = (refl, none)
 
-or_left : (x y : Bool) → x ≡ true → (x || y) ≡ true
+pub or_left : (x y : Bool) → x ≡ true → (x || y) ≡ true
 or_left true y is = refl
 or_left false y is = absurd (cc)
 
-or_right : (x y : Bool) → y ≡ true → (x || y) ≡ true
+pub or_right : (x y : Bool) → y ≡ true → (x || y) ≡ true
 or_right true y is = refl
 or_right false y is = is
 

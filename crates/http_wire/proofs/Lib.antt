@@ -3,6 +3,8 @@ pub mod ShapeLemmas
 pub mod NumberLemmas
 pub mod HeaderLemmas
 pub mod ConditionLemmas
+pub mod ReadingLemmas
+pub mod TrimLemmas
 pub mod FieldLemmas
 pub mod UniqueLemmas
 pub mod FirstLemmas

@@ -14,6 +14,7 @@ use Rattle.httparse.specs.Spans.{name_and_value}
 use Rattle.lti_outside.proofs.BoolLemmas.{and_split}
 use Rattle.http_wire.specs.Headers.{is_named, values_of, first_in, is_text_byte, trim_end, media_in}
 use Rattle.http_wire.specs.Written.{is_trimmed, is_media_byte, is_media}
+use Rattle.http_wire.proofs.HeaderLemmas.{neither}
 use Rattle.http_wire.proofs.BackHost.{and_join, implied}
 
 one_more : (n : ℕ) → 1 + n ≡ suc n
@@ -72,10 +73,6 @@ without c f (b ∷ xs) all none =
     let both = and_split (f b) (list_all f xs) all in
     let other = neither (b == c) (list_any (λ k. k == c) xs) none in
     and_join (f b && not (b == c)) _ (and_join (f b) (not (b == c)) both.0 (ap not other.0)) (without c f xs both.1 other.1)
-  where
-    neither : (x y : Bool) → (x || y) ≡ false → (x ≡ false) × (y ≡ false)
-    neither true y t = absurd (cc)
-    neither false y t = (refl, t)
 
 -- ---- without spaces and tabs at the ends
 

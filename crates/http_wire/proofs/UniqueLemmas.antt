@@ -4,8 +4,9 @@ use Rattle.std.proofs.lemmas.List.{length-append}
 use Rattle.httparse.proofs.GrammarLemmas.{request_unique}
 use Rattle.lti_outside.specs.declared.limits.Limits.{Limits}
 use Rattle.http_wire.specs.Shape.{HasNoHead, IsHead}
-use Rattle.http_wire.specs.Head.{Plain, HeadReads, plain_of, body_length, request_of}
+use Rattle.http_wire.specs.Head.{HeadParts, HeadReads, IsRequestOf, head_parts_of, part_conditions, body_length, request_of}
 use Rattle.http_wire.specs.Spelling.{HeadIn, BeginsWithNone, OneSpelling, NoProperFront}
+use Rattle.http_wire.proofs.ReadingLemmas.{head_parts_unique}
 use Rattle.http_wire.proofs.ShapeLemmas.{by_last, before_last, head_of, tail_of}
 
 -- two fronts of the same bytes: one begins with the other
@@ -48,19 +49,18 @@ same_fronts (c ∷ a) (d ∷ b) x y long is =
     ((λ i. head_of (is i) ∷ rest.0 i), rest.1)
 
 -- a head says one thing
-pub plain_unique : (limits : Limits) (head : List ℕ) (p q : Plain) → HeadReads limits head p → HeadReads limits head q → p ≡ q
-plain_unique limits head p q one other =
-    let same = request_unique head one.parsed other.parsed [] [] one.reads other.reads in
-    one.is ∙ ap plain_of same.0 ∙ sym other.is
+said_once : (limits : Limits) (head : List ℕ) (p q : HeadParts) → HeadReads limits head p → HeadReads limits head q → p ≡ q
+said_once limits head p q one other =
+    head_parts_unique IsRequestOf head_parts_of (part_conditions limits) limits head (λ h k a b. (request_unique head h k [] [] a b).0) p q one other
 
 pub one_spelling : OneSpelling
 one_spelling limits one other x y p q first second is =
     let heads = heads_unique first.head second.head (p.body ++ x) (q.body ++ y) first.is_head second.is_head
     (sym (append_assoc first.head p.body x) ∙ ap (λ b. b ++ x) (sym first.is) ∙ is ∙ ap (λ b. b ++ y) second.is ∙ append_assoc second.head q.body y) in
-    let plains = plain_unique limits first.head first.plain second.plain first.reads (subst (λ (h : List ℕ). HeadReads limits h second.plain) (sym heads.0) second.reads) in
-    let bodies = same_fronts p.body q.body x y (first.body ∙ ap body_length plains ∙ sym second.body) heads.1 in (
+    let same_parts = said_once limits first.head first.head_parts second.head_parts first.reads (subst (λ (h : List ℕ). HeadReads limits h second.head_parts) (sym heads.0) second.reads) in
+    let bodies = same_fronts p.body q.body x y (first.body ∙ ap body_length same_parts ∙ sym second.body) heads.1 in (
       first.is ∙ (λ i. heads.0 i ++ bodies.0 i) ∙ sym second.is,
-      first.parts_are ∙ (λ i. request_of (plains i) (bodies.0 i)) ∙ sym second.parts_are,
+      first.parts_are ∙ (λ i. request_of (same_parts i) (bodies.0 i)) ∙ sym second.parts_are,
       bodies.1,
     )
 
@@ -75,12 +75,12 @@ none_without_head limits bytes none spelled rest parts spells is =
     (is ∙ ap (λ x. x ++ rest) spells.is ∙ append_assoc spells.head parts.body rest ∙ ap (λ x. x ++ (parts.body ++ rest)) spells.is_head.is)
 
 -- a head with less behind it than the body that it says begins no spelling
-pub none_in_body : (limits : Limits) (bytes head rest : List ℕ) (plain : Plain) → HeadIn limits bytes head rest → HeadReads limits head plain → length rest < body_length plain
+pub none_in_body : (limits : Limits) (bytes head rest : List ℕ) (head_parts : HeadParts) → HeadIn limits bytes head rest → HeadReads limits head head_parts → length rest < body_length head_parts
     → BeginsWithNone limits bytes
-none_in_body limits bytes head rest plain stands reads short spelled more parts spells is =
+none_in_body limits bytes head rest head_parts stands reads short spelled more parts spells is =
     let same = heads_unique head spells.head rest (parts.body ++ more) stands.is_head spells.is_head
     (sym stands.is ∙ is ∙ ap (λ x. x ++ more) spells.is ∙ append_assoc spells.head parts.body more) in
-    let plains = plain_unique limits head plain spells.plain reads (subst (λ (x : List ℕ). HeadReads limits x spells.plain) (sym same.0) spells.reads) in
-    let lengths = ap body_length plains in
+    let same_parts = said_once limits head head_parts spells.head_parts reads (subst (λ (x : List ℕ). HeadReads limits x spells.head_parts) (sym same.0) spells.reads) in
+    let lengths = ap body_length same_parts in
     let whole = ap length same.1 ∙ length-append parts.body more in
     omega (arith, whole, lengths, short, spells.body)

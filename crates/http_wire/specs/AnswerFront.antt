@@ -5,36 +5,28 @@ use Rattle.lti_outside.specs.declared.limits.Limits.{Limits}
 use Rattle.http_wire.specs.declared.answer_head.AnswerFront.{AnswerFront}
 use Rattle.http_wire.specs.declared.fault.WireFault.{WireFault}
 use Rattle.http_wire.specs.declared.fault.WireFault.TheVariants.{BodyTooLong, ReadFault, NoMemory}
-use Rattle.http_wire.specs.Conditions.{first_fault}
+use Rattle.http_wire.specs.Reading.{Tells, Judges}
 use Rattle.http_wire.specs.Headers.{values_of, first_in, media_in, length_said}
 use Rattle.http_wire.specs.Taking.{BodyTaken}
-use Rattle.http_wire.specs.Answer.{PlainAnswer, answer_length_conditions, answer_conditions, answer_length, AnswerHeadReads, AnswerHeadFault}
+use Rattle.http_wire.specs.Answer.{AnswerHeadParts, answer_length_conditions, answer_conditions, answer_length, AnswerHeadReads, AnswerHeadFault}
 
 -- what is kept of a head
-pub record IsAnswerFront (plain : PlainAnswer) (front : AnswerFront) : Type 0 where
-  pub status : front.status ≡ plain.status
-  pub media : front.media ≡ media_in (first_in (values_of (codes "Content-Type") plain.headers))
-  pub length : front.length ≡ answer_length plain
+pub record IsAnswerFront (head_parts : AnswerHeadParts) (front : AnswerFront) : Type 0 where
+  pub status : front.status ≡ head_parts.status
+  pub media : front.media ≡ media_in (first_in (values_of (codes "Content-Type") head_parts.headers))
+  pub length : front.length ≡ answer_length head_parts
 
 abbrev pub AnswerHeadTells : Limits → List ℕ → Result AnswerFront WireFault → Type 0
-AnswerHeadTells limits head (Ok front) = (plain : PlainAnswer) × AnswerHeadReads limits head plain × IsAnswerFront plain front
-AnswerHeadTells limits head (Err NoMemory) = ⊤
-AnswerHeadTells limits head (Err ReadFault) = ⊥
-AnswerHeadTells limits head (Err fault) = AnswerHeadFault limits head fault
+AnswerHeadTells limits head result =
+    Tells (λ front. (head_parts : AnswerHeadParts) × AnswerHeadReads limits head head_parts × IsAnswerFront head_parts front) ⊤ (AnswerHeadFault limits head) result
 
 -- the same of the parts alone
-abbrev pub AnswerPartsTell : Limits → PlainAnswer → Result AnswerFront WireFault → Type 0
-AnswerPartsTell limits plain (Ok front) = (first_fault (answer_conditions limits plain) ≡ None) × IsAnswerFront plain front
-AnswerPartsTell limits plain (Err NoMemory) = ⊤
-AnswerPartsTell limits plain (Err ReadFault) = ⊥
-AnswerPartsTell limits plain (Err fault) = first_fault (answer_conditions limits plain) ≡ Some fault
+abbrev pub AnswerPartsTell : Limits → AnswerHeadParts → Result AnswerFront WireFault → Type 0
+AnswerPartsTell limits head_parts result = Judges (answer_conditions limits head_parts) (IsAnswerFront head_parts) ⊤ result
 
--- the same of the length alone
+-- the same of the length alone, which takes no memory
 abbrev pub AnswerLengthTells : Limits → List (List ℕ) → Result (Option ℕ) WireFault → Type 0
-AnswerLengthTells limits values (Ok said) = (first_fault (answer_length_conditions limits values) ≡ None) × (said ≡ length_said values)
-AnswerLengthTells limits values (Err NoMemory) = ⊥
-AnswerLengthTells limits values (Err ReadFault) = ⊥
-AnswerLengthTells limits values (Err fault) = first_fault (answer_length_conditions limits values) ≡ Some fault
+AnswerLengthTells limits values result = Judges (answer_length_conditions limits values) (λ said. said ≡ length_said values) ⊥ result
 
 -- all bytes up to the end of input were taken, within a limit
 abbrev pub RestTaken : ℕ → List ℕ → List ℕ → Type 0 → Result Held WireFault → Type 0

@@ -1,9 +1,9 @@
 -- What reading the length of a body answers.
-use Rattle.std.specs.Prelude.{◌≡◌, ℕ, false, true, List, Option, None, Some, Result, Ok, Err}
+use Rattle.std.specs.Prelude.{◌≡◌, ℕ, false, true, List, Option, Result, Ok, Err}
 use Rattle.lti_outside.specs.declared.limits.Limits.{Limits}
 use Rattle.http_wire.specs.declared.fault.WireFault.{WireFault}
-use Rattle.http_wire.specs.declared.fault.WireFault.TheVariants.{BadLength, ReadFault, NoMemory}
-use Rattle.http_wire.specs.Conditions.{first_fault}
+use Rattle.http_wire.specs.declared.fault.WireFault.TheVariants.{BadLength}
+use Rattle.http_wire.specs.Reading.{Judges}
 use Rattle.http_wire.specs.Headers.{is_bad_length, length_said, length_in}
 use Rattle.http_wire.specs.Head.{length_conditions}
 
@@ -15,8 +15,4 @@ LengthSaid values (Err fault) = ⊥
 
 -- the length of a request's body, or the first fault of it
 abbrev pub LengthTells : Limits → List ℕ → List (List ℕ) → Result ℕ WireFault → Type 0
-LengthTells limits method values (Ok length) =
-    (first_fault (length_conditions limits method values) ≡ None) × (length ≡ length_in values)
-LengthTells limits method values (Err NoMemory) = ⊥
-LengthTells limits method values (Err ReadFault) = ⊥
-LengthTells limits method values (Err fault) = first_fault (length_conditions limits method values) ≡ Some fault
+LengthTells limits method values result = Judges (length_conditions limits method values) (λ length. length ≡ length_in values) ⊥ result

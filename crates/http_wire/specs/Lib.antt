@@ -2,6 +2,7 @@ pub mod Message
 pub mod Conditions
 pub mod Shape
 pub mod Lines
+pub mod Reading
 pub mod Headers
 pub mod Head
 pub mod Length

@@ -2,6 +2,7 @@
 use Rattle.std.specs.Prelude.{◌+◌, ◌==◌, ◌&&◌, ◌||◌, not, nat_eq, nat_lt, ℕ, Bool, false, if◌then◌else◌, List, [], ◌∷◌, length, filter}
 use Rattle.std.specs.List.{starts_with}
 use Rattle.lti_outside.specs.declared.limits.Limits.{Limits}
+use Rattle.http_wire.specs.declared.fault.WireFault.{WireFault}
 use Rattle.http_wire.specs.declared.fault.WireFault.TheVariants.{TooManyHeaders, BadHead}
 use Rattle.http_wire.specs.Conditions.{Condition}
 
@@ -21,7 +22,7 @@ line_feeds bytes = length (filter (λ b. b == 10) bytes)
 
 -- the conditions on the lines of a head: more than the header lines allowed, the first line and the empty line; a
 -- bare LF; an empty first line
-abbrev pub line_conditions : Limits → List ℕ → List Condition
+abbrev pub line_conditions : Limits → List ℕ → List (Condition WireFault)
 line_conditions limits head =
     record { holds = nat_lt (limits.headers + 2) (line_ends 0 head); fault = TooManyHeaders }
     ∷ record { holds = has_bare_line_feed 0 head; fault = BadHead }

@@ -8,18 +8,18 @@ use Rattle.http_wire.specs.declared.fault.WireFault.{WireFault}
 use Rattle.http_wire.specs.declared.fault.WireFault.TheVariants.{HeadTooLong, CutShort, ReadFault, NoMemory}
 use Rattle.http_wire.specs.Message.{RequestParts, parts_of}
 use Rattle.http_wire.specs.Shape.{HasNoHead, IsHead}
-use Rattle.http_wire.specs.Head.{Plain, HeadReads, HeadFault, request_of, body_length}
+use Rattle.http_wire.specs.Head.{HeadParts, HeadReads, HeadFault, request_of, body_length}
 
 -- the bytes are the whole spelling of the request: a head within the limit, and a body of the length that it says
 pub record Spelling (limits : Limits) (bytes : List ℕ) (parts : RequestParts) : Type 0 where
   pub head : List ℕ
-  pub plain : Plain
+  pub head_parts : HeadParts
   pub is_head : IsHead head
   pub fits : length head ≤ limits.head
-  pub reads : HeadReads limits head plain
-  pub body : length parts.body ≡ body_length plain
+  pub reads : HeadReads limits head head_parts
+  pub body : length parts.body ≡ body_length head_parts
   pub is : bytes ≡ head ++ parts.body
-  pub parts_are : parts ≡ request_of plain parts.body
+  pub parts_are : parts ≡ request_of head_parts parts.body
 
 -- a head within the limit stands at the front of the bytes
 pub record HeadIn (limits : Limits) (bytes head rest : List ℕ) : Type 0 where
@@ -37,7 +37,7 @@ EndsInHead limits bytes ended = (0 < length bytes) × (length bytes < limits.hea
 
 -- the input ends inside a body
 abbrev pub EndsInBody : Limits → List ℕ → List ℕ → Type 0 → Type 0
-EndsInBody limits head rest ended = (plain : Plain) × HeadReads limits head plain × (length rest < body_length plain) × ended
+EndsInBody limits head rest ended = (head_parts : HeadParts) × HeadReads limits head head_parts × (length rest < body_length head_parts) × ended
 
 -- the first fault of bytes that begin with no spelling; `ended` says that the input ends behind them
 abbrev pub WireFaultOf : Limits → List ℕ → Type 0 → WireFault → Type 0

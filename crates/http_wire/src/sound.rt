@@ -9,7 +9,8 @@ ghost use Rattle.http_wire.specs.Written.{IsSoundRequest};
 
 use crate::message::Request;
 use crate::target::{are_target_bytes, is_target};
-use crate::values::{are_text_bytes, is_text_byte, trim_end, trim_front};
+use crate::values::{are_text_bytes, is_text_byte};
+use oauth_text::{trim_end, trim_front};
 
 fn is_token_byte(b: u8) -> bool
     ensures { result ≡ token.is_token_byte b }

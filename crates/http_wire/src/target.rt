@@ -3,7 +3,7 @@ ghost use Rattle.std.specs.Prelude.{◌≡◌, ◌==◌};
 ghost use Rattle.std.specs.List.{list_all, before_first, after_first};
 ghost use Rattle.http_wire.specs.Head as grammar;
 
-use crate::values::place_of;
+use oauth_text::place_of;
 
 fn is_target_byte(b: u8) -> bool
     ensures { result ≡ grammar.is_target_byte b }

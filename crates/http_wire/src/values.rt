@@ -1,13 +1,14 @@
 // The values of headers (RFC 9110, section 5.5).
 ghost use Rattle.std.specs.Prelude.{◌≡◌, ◌==◌, ◌≤◌, ◌<◌, ℕ, length, take, slice_index, IfOk, MatchOption, IsAscii, All, true, false};
-ghost use Rattle.std.specs.List.{list_all, position, position_or_len};
+ghost use Rattle.std.specs.List.{list_all};
 ghost use Rattle.std.specs.Char.{is_ascii_digit};
 ghost use Rattle.std.specs.Str.Parse.{digits_value};
-ghost use Rattle.httparse.specs.Grammar.{is_ows, skip_ows, trim_ows};
+ghost use Rattle.httparse.specs.Grammar.{trim_ows};
 ghost use Rattle.http_wire.specs.Headers as spec;
 
 use lti_outside::{NoMemory, Text};
 use memchr::memchr;
+use oauth_text::{place_of, trim_end, trim_front};
 use percent_encoding::ascii_str;
 use std::alloc::Global;
 
@@ -57,39 +58,6 @@ pub(crate) fn has_close(value: &[u8]) -> bool
     is_close(rest)
 }
 
-fn is_blank(b: u8) -> bool
-    ensures { result ≡ is_ows b }
-{
-    b == b' ' || b == b'\t'
-}
-
-/// The text without the spaces and tabs in front.
-pub(crate) fn trim_front(text: &[u8]) -> &[u8]
-    ensures { result.now ≡ skip_ows text.now }
-{
-    let mut rest = text;
-    while let [first, others @ ..] = rest
-        && is_blank(*first)
-    {
-        rest = others;
-    }
-    rest
-}
-
-/// The text without the spaces and tabs at its end, a front of it.
-pub(crate) fn trim_end(text: &[u8]) -> &[u8]
-    ensures trimmed { result.now ≡ spec.trim_end text.now }
-    ensures front { (count : ℕ) × (result.now ≡ take count text.now) }
-{
-    let mut rest = text;
-    while let [others @ .., last] = rest
-        && is_blank(*last)
-    {
-        rest = others;
-    }
-    rest
-}
-
 fn trim(text: &[u8]) -> &[u8]
     ensures { result.now ≡ trim_ows text.now }
 {
@@ -112,27 +80,9 @@ pub(crate) fn number(value: &[u8]) -> u64
     requires { spec.is_length value.now ≡ true }
     ensures { result ≡ digits_value 10 value.now }
 {
-    let mut number: u64 = 0;
-    for b in value {
-        number = number * 10 + u64::from(*b - b'0');
-    }
-    number
-}
-
-fn first_place(byte: u8, text: &[u8]) -> Option<usize>
-    ensures { result ≡ position (λ b. b == byte) text.now }
-{
-    text.iter().position(|b| *b == byte)
-}
-
-/// The first place of the byte, or the length.
-pub(crate) fn place_of(byte: u8, text: &[u8]) -> usize
-    ensures place { result ≡ position_or_len (λ b. b == byte) text.now }
-    ensures bound { result ≤ length text.now }
-{
-    match first_place(byte, text) {
-        Some(place) => place,
-        None => text.len(),
+    match ascii_str(value).parse() {
+        Ok(number) => number,
+        Err(_) => unreachable!(),
     }
 }
 

@@ -9,9 +9,10 @@ mod points;
 mod words;
 
 use crate::points::{ceiling, floor, nearest};
-use crate::words::{Asked, address_of, read_words, text_of};
+use crate::words::{Asked, address_of, read_words};
 use lti_outside::{Limits, Link, StdLink, StdSource, SystemClock, SystemRandom};
 use lti_server::{Scales, run};
+use lti_words::Status;
 use rand::rngs::StdRng;
 use score_decimal::Scale;
 use std::fs::File;
@@ -72,26 +73,26 @@ fn work<R: Read + Drop, I: Link>(
     words: &[String],
     settings: R,
     ends: &mut I,
-) -> u8 {
+) -> Status {
     let Ok(generator) = rand::make_rng::<StdRng, _>(rt) else {
-        return 4;
+        return Status::ReadFault;
     };
     let alloc = rt.alloc();
     let Ok(lowest) = Box::new(alloc, floor) else {
-        return 8;
+        return Status::NoMemory;
     };
     let Ok(nearest) = Box::new(alloc, nearest) else {
-        return 8;
+        return Status::NoMemory;
     };
     let Ok(highest) = Box::new(alloc, ceiling) else {
-        return 8;
+        return Status::NoMemory;
     };
     let scales = Scales {
         floor: Scale::new(lowest),
         nearest: Scale::new(nearest),
         ceiling: Scale::new(highest),
     };
-    run(
+    let number = run(
         rt.alloc(),
         words,
         &mut StdSource::new(settings),
@@ -100,39 +101,47 @@ fn work<R: Read + Drop, I: Link>(
         &mut SystemRandom::new(generator),
         &scales,
         &Limits::usual(),
-    )
+    );
+    Status::of(number)
 }
 
 // Does what the words ask, over the connection that they need. An address that can't be connected to is a read fault.
-fn connect_and_work<R: Read + Drop>(rt: &HostRuntime, words: &[String], settings: R) -> u8 {
+fn connect_and_work<R: Read + Drop>(rt: &HostRuntime, words: &[String], settings: R) -> Status {
     let Some(address) = address_of(words) else {
         let mut ends = StdLink::new(rt.reader(), io::writer(rt));
         return work(rt, words, settings, &mut ends);
     };
     match TcpStream::connect(rt, address) {
         Ok(stream) => work(rt, words, settings, &mut StdLink::new(&stream, &stream)),
-        Err(_) => 4,
+        Err(_) => Status::ReadFault,
+    }
+}
+
+// How a run ends that printed a text.
+fn printed(text: io::Result<()>) -> Status {
+    match text {
+        Ok(()) => Status::Done,
+        Err(_) => Status::WriteFault,
     }
 }
 
 fn main(rt: HostRuntime) -> ExitCode {
-    let Ok(words) = given_words(&rt) else {
-        let _ = eprint!(rt; "{}\n{USAGE}", text_of(2));
-        return ExitCode::from(2);
-    };
-    let status = match read_words(&words) {
-        Asked::Help => print!(rt; "{USAGE}").map_or(5, |()| 0),
-        Asked::Version => print!(rt; "{VERSION}").map_or(5, |()| 0),
-        Asked::Work => match File::open(&rt, SETTINGS) {
-            Ok(file) => connect_and_work(&rt, &words, file),
-            Err(_) => connect_and_work(&rt, &words, io::empty()),
+    let status = match given_words(&rt) {
+        Ok(words) => match read_words(&words) {
+            Asked::Help => printed(print!(rt; "{USAGE}")),
+            Asked::Version => printed(print!(rt; "{VERSION}")),
+            Asked::Work => match File::open(&rt, SETTINGS) {
+                Ok(file) => connect_and_work(&rt, &words, file),
+                Err(_) => connect_and_work(&rt, &words, io::empty()),
+            },
         },
+        Err(_) => Status::Usage,
     };
-    if status != 0 {
-        let _ = eprintln!(rt; "{}", text_of(status));
+    if status != Status::Done {
+        let _ = eprintln!(rt; "{}", status.word());
     }
-    if status == 2 {
+    if status == Status::Usage {
         let _ = eprint!(rt; "{USAGE}");
     }
-    ExitCode::from(status)
+    ExitCode::from(status.number())
 }

@@ -1,7 +1,7 @@
-// What the program does by its words, and what it prints for a status.
+// What the program does by its words.
 ghost use Rattle.std.specs.Prelude.{◌≡◌, ◌↔◌, [], ◌∷◌, IsTrue, codes, map, string_bytes};
 ghost use Rattle.std.specs.Option.{option_map};
-ghost use Rattle.lti_cmd.specs.Words.{IsAsked, address_in, table, text_in};
+ghost use Rattle.lti_cmd.specs.Words.{IsAsked, address_in};
 
 /// What the words ask of the program.
 #[derive(Clone, Copy, Debug, PartialEq, Eq)]
@@ -56,26 +56,5 @@ pub fn address_of(words: &[String]) -> Option<&str>
     match words {
         [name, address, ..] if name.as_str() == "passback" => Some(address.as_str()),
         _ => None,
-    }
-}
-
-/// What is printed on standard error for a status that isn't 0.
-pub fn text_of(status: u8) -> &'static str
-    ensures { result.now ≡ text_in table status }
-{
-    match status {
-        2 => "usage",
-        3 => "settings",
-        4 => "read fault",
-        5 => "write fault",
-        8 => "want of memory",
-        9 => "cut short",
-        11 => "already issued",
-        14 => "refused message",
-        15 => "not a success",
-        16 => "no such placement",
-        17 => "unknown key",
-        18 => "not issued",
-        _ => "unknown status",
     }
 }

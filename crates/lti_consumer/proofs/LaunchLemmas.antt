@@ -1,13 +1,11 @@
 -- What the tool's end reads in a launch form that is posted.
-use Rattle.std.proofs.Common.{◌≡◌, ℕ, ◌≤◌, ◌==◌, nat_lt, Bool, true, false, not, ◌||◌, if◌then◌else◌, codes, bytes_eq, List, [], ◌∷◌, ◌++◌, length, append-nil, refl, sym, ap, ◌∙◌, Option, None, Some, arith}
+use Rattle.std.proofs.Common.{◌≡◌, ℕ, ◌≤◌, ◌==◌, nat_lt, Bool, false, List, [], ◌∷◌, ◌++◌, length, append-nil, refl, sym, ap, ◌∙◌, None, arith}
 use Rattle.std.specs.List.{find}
-use Rattle.std.proofs.lemmas.Bool.{true_from_ne_false}
 use Rattle.std.proofs.lemmas.Bool.Decides.{nat_tests}
-use Rattle.std.proofs.lemmas.Option.{none-some}
 use Rattle.lti_outside.specs.declared.pairs.Pair.{Pair}
 use Rattle.oauth_text.specs.Form.{pairs_of}
 use Rattle.oauth_text.specs.Url.{UrlParts}
-use Rattle.http_wire.specs.Message.{RequestParts, ResponseParts}
+use Rattle.http_wire.specs.Message.{RequestParts}
 use Rattle.oauth_request.specs.Checked as checked
 use Rattle.oauth_request.specs.Protocol.{key_name, method_name, timestamp_name, nonce_name, signature_name, version_name}
 use Rattle.oauth_request.specs.Signing.{protocol_pairs, callback_pair, pair, form_pairs, IsSignedForm, PostsForm}
@@ -21,11 +19,9 @@ use Rattle.lti_launch.specs.declared.fields.LaunchField.TheVariants.{LtiMessageT
 use Rattle.lti_launch.proofs.ValueLemmas.{values-append}
 use Rattle.lti_launch.proofs.LaunchLemmas.{faultless_join, value_stands}
 use Rattle.lti_machine.specs.declared.call.Action.TheVariants as action
-use Rattle.lti_provider.specs.Answers.{plain}
-use Rattle.lti_provider.specs.Before.{route_refusal, is_for_launches, is_for_outcomes, is_xml}
-use Rattle.lti_provider.specs.Calls.{text_in, text_of, IsLaunchCall}
+use Rattle.lti_asks.specs.Launches.{text_in, text_of, IsLaunchCall}
 use Rattle.lti_consumer.specs.Launches.{launch_fields, launch_action}
-use Rattle.lti_consumer.specs.Laws.{HoldsNoField, LaunchIsNoted}
+use Rattle.lti_consumer.specs.Laws.{HoldsNoField, FormSaysLaunch}
 use Rattle.lti_consumer.specs.declared.terms.Terms.{Terms}
 use Rattle.lti_consumer.proofs.FieldLemmas.{holds_none, alone, standing, fields_stand, oauth_stand, others_stand, unsigned_stand}
 
@@ -136,36 +132,8 @@ sent_stands url terms form key secret nonce moment q free made posts field =
     ∙ (λ i. others_stand field (pairs_of url.query) free i ++ values field (made.is i))
     ∙ form_stands terms key nonce made.text moment field
 
--- what is routed and is no launch's is XML
-refused_other : (outcomes post encoded : Bool) (lost misused unknown : ResponseParts)
-    → (if not outcomes then Some lost else if not post then Some misused else if encoded || true then Some unknown else None) ≡ None → ⊥
-refused_other false post encoded lost misused unknown routed = none-some lost (sym routed)
-refused_other true false encoded lost misused unknown routed = none-some misused (sym routed)
-refused_other true true false lost misused unknown routed = none-some unknown (sym routed)
-refused_other true true true lost misused unknown routed = none-some unknown (sym routed)
-
--- so a form that is routed is a launch's
-for_launches : (q : RequestParts) → q.media ≡ checked.form_type → route_refusal q ≡ None → is_for_launches q ≡ true
-for_launches q media routed = true_from_ne_false (is_for_launches q) (λ other.
-    refused_other (is_for_outcomes q) (bytes_eq q.method (codes "POST")) q.encoded (plain 404 (codes "not found")) (plain 405 (codes "method not allowed")) (plain 415 (codes "unsupported media type"))
-    (sym (λ i. refusal (other i) (not_xml i)) ∙ routed))
-  where
-    not_xml : is_xml q ≡ false
-    not_xml = rw media refl
-
-    refusal : Bool → Bool → Option ResponseParts
-    refusal launches xml =
-        if not (launches || is_for_outcomes q) then Some (plain 404 (codes "not found"))
-        else if not (bytes_eq q.method (codes "POST")) then Some (plain 405 (codes "method not allowed"))
-        else if q.encoded || not (if launches then checked.is_form q else xml) then Some (plain 415 (codes "unsupported media type"))
-        else None
-
-pub launch_is_noted : LaunchIsNoted
-launch_is_noted other url terms form key secret nonce moment q some can are free made posts =
-    let believed = signed_is_believed.0 other url (launch_fields terms) form key secret nonce moment q can (holds_none terms) are made posts in
-    let asks = call terms (checked.parameters q) (sent_stands url terms form key secret nonce moment q free made posts) some in
-    record {
-      believed = believed;
-      call = asks;
-      asked = λ routed. record { routed = routed; well_signed = believed.well_signed; says = believed.says; call = (for_launches q posts.media routed, asks) };
-    }
+pub form_says_launch : FormSaysLaunch
+form_says_launch other url terms form key secret nonce moment q some can are free made posts = record {
+  believed = signed_is_believed.0 other url (launch_fields terms) form key secret nonce moment q can (holds_none terms) are made posts;
+  call = call terms (checked.parameters q) (sent_stands url terms form key secret nonce moment q free made posts) some;
+}

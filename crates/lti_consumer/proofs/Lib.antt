@@ -1,3 +1,2 @@
 mod FieldLemmas
-mod LaunchLemmas
-pub mod OutcomeLemmas
+pub mod LaunchLemmas

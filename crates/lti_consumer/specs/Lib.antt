@@ -1,3 +1,2 @@
 pub mod Launches
 pub mod Laws
-pub mod Outcomes

@@ -1,7 +1,7 @@
 // How the reply to an outcome's call is told.
 ghost use Rattle.std.specs.Prelude.{◌≡◌, ◌≤◌, ◌++◌};
 ghost use Rattle.pox_outcomes.specs.Answered.{answer_text, room_of};
-ghost use Rattle.lti_provider.specs.Outcomes.{IsTold};
+ghost use Rattle.lti_asks.specs.Outcomes.{IsTold};
 
 use lti_machine::Reply;
 use lti_outside::Bytes;
@@ -29,7 +29,7 @@ fn told_of(outcome: &Outcome, reply: Reply) -> Told
 
 /// Appends the envelope that tells the reply to an outcome's call (LTI 1.1.1, section 6). Takes no memory.
 ///
-/// The reply tells something of this outcome, which `accepted_is_told` says of the replies to its call, and the bytes have
+/// The reply tells something of this outcome, which `lti_asks::accepted_is_told` says of the replies to its call, and the bytes have
 /// the room that `pox_outcomes::answer_room` counts.
 pub fn outcome_answer(outcome: &Outcome, reply: Reply, out: &mut Bytes)
     requires told { (told : Told) × IsTold outcome.now reply told }

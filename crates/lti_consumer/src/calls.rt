@@ -1,7 +1,7 @@
 // What an outcome request asks of the machine.
 ghost use Rattle.std.specs.Prelude.{IfOk, IfErr};
 ghost use Rattle.pox_outcomes.specs.BadRequest.{IsBadRequest};
-ghost use Rattle.lti_provider.specs.Outcomes.{IsAskedBy, IsOutcomeCall};
+ghost use Rattle.lti_asks.specs.Outcomes.{IsAskedBy, IsOutcomeCall};
 
 use lti_machine::Action;
 use lti_outside::NoMemory;

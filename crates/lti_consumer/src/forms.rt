@@ -3,7 +3,7 @@ ghost use Rattle.std.specs.Prelude.{◌≡◌, ◌≤◌, ◌∷◌, ◌++◌, [
 ghost use Rattle.oauth_text.specs.UrlView.{parts_of};
 ghost use Rattle.oauth_request.specs.Signing.{CanSign, IsSignedForm};
 ghost use Rattle.lti_launch.specs.Fields.{name_of};
-ghost use Rattle.lti_provider.specs.Calls.{IsLaunchCall};
+ghost use Rattle.lti_asks.specs.Launches.{IsLaunchCall};
 ghost use Rattle.lti_consumer.specs.Launches as spec;
 
 use crate::Terms;
@@ -78,7 +78,7 @@ fn launch_fields(alloc: Global, terms: &Terms) -> Result<Pairs, NoMemory>
 /// standard's order; then the parameters of the protocol and the signature, as `sign_form` has them. `moment` is in seconds
 /// since 1970-01-01 00:00:00 UTC.
 ///
-/// What the other end makes of it is said by `launch_is_noted`.
+/// What the other end reads in it is said by `a_launch_form_says_its_launch`.
 pub fn launch_form(
     alloc: Global,
     url: &Url,

@@ -1,10 +1,11 @@
 //! What outcome requests ask of the machine, and the envelopes that tell its replies.
 ghost use Rattle.std.specs.Prelude.{◌≡◌};
 ghost use Rattle.pox_outcomes.specs.declared.told.Told.{Told};
-ghost use Rattle.lti_provider.specs.Outcomes.{IsTold};
-ghost use Rattle.lti_consumer.specs.Outcomes as spec;
+ghost use Rattle.lti_asks.specs.Outcomes.{IsTold};
+ghost use Rattle.lti_asks.specs.Outcomes as spec;
 
 use super::*;
+use lti_asks::{accepted_is_told, one_telling};
 use lti_machine::{Action, Reply, Standing};
 use lti_outside::{Bytes, NoMemory};
 use pox_outcomes::{EnvelopeFault, Operation, Outcome, answer_room};

@@ -1,25 +1,20 @@
 -- What an office did for a call, said over the lists that it knows.
 use Rattle.std.proofs.Common.{◌≡◌, ◌⊎◌, ◌<◌, ◌≤◌, ℕ, true, false, true≢false, inl, inr, List, [], ◌∷◌, ◌++◌, All, Option, Some, None, refl, sym, ap, ◌∙◌, subst, arith}
-use Rattle.std.proofs.lemmas.List.Elements.{All-nil, All-cons, All-head, All-tail, All-push}
-use Rattle.std.proofs.lemmas.Bool.{cond-true, cond-false, cond_both}
+use Rattle.std.proofs.lemmas.List.Elements.{All-push}
+use Rattle.std.proofs.lemmas.Bool.{cond-true, cond-false}
 use Rattle.lti_outside.specs.DiskMoments.{LeavesOnly}
 use Rattle.lti_outside.specs.declared.disk.Disk.{Ghosts}
 use Rattle.gate_journal.specs.Half.{free_of}
 use Rattle.gate_journal.specs.Journal.{disk_of, place_of}
 use Rattle.lti_machine.specs.EntryBytes.{entry_text, length_of, IsBounded, IsInRange}
-use Rattle.lti_machine.specs.Rules.{decide, entry_of, now_of, after, is_acceptance, is_issue, result, result_of, standing_of, id_of, reply_by, verdict_of}
+use Rattle.lti_machine.specs.Rules.{decide, entry_of, now_of, after, is_acceptance}
 use Rattle.lti_machine.specs.Sound.{IsSound}
-use Rattle.lti_machine.proofs.BoundLemmas.{accepted_bounded}
-use Rattle.lti_machine.specs.declared.call.Action.{Action}
-use Rattle.lti_machine.specs.declared.call.Action.TheVariants as action
+use Rattle.lti_machine.proofs.BoundLemmas.{accepted_bounded, all_bounded}
+use Rattle.lti_machine.proofs.PlainLemmas.{kind, decided_is_plain}
 use Rattle.lti_machine.specs.declared.call.Call.{Call}
 use Rattle.lti_machine.specs.declared.entry.Entry.{Entry}
 use Rattle.lti_machine.specs.declared.reply.Reply.{Reply}
 use Rattle.lti_machine.specs.declared.reply.Reply.TheVariants as reply
-use Rattle.lti_machine.specs.declared.standing.Standing.{Standing}
-use Rattle.lti_machine.specs.declared.standing.Standing.TheVariants.{Unknown, Empty, Scored}
-use Rattle.lti_machine.specs.declared.verdict.Verdict.{Verdict}
-use Rattle.lti_machine.specs.declared.verdict.Verdict.TheVariants as nonce
 use Rattle.lti_desk.specs.Keeping.{IsKept, IsOneOf, IsInDoubtAfter}
 use Rattle.lti_desk.specs.Keeping.IsInDoubtAfter.{old_doubt, new_doubt, no_doubt}
 use Rattle.lti_desk.specs.Ledger.{Holds}
@@ -31,51 +26,6 @@ use Rattle.lti_desk.specs.Responding.Responds.{refused, full, no_memory, disk_fa
 use Rattle.lti_desk.specs.declared.office.Office.{Office}
 use Rattle.lti_desk.specs.declared.ledger.Ledger.{Ledger}
 use Rattle.lti_desk.proofs.HeldLemmas.{ledger_held}
-
--- 0 for a reply of the rules, and another number for each other one
-abbrev kind : Reply → ℕ
-kind (reply.JournalFull free) = 1
-kind (reply.DiskFault faults) = 2
-kind reply.RunFull = 3
-kind reply.NoMemory = 4
-kind _ = 0
-
-result_is_plain : (asked : Action) (stands : Standing) → kind (result_of asked stands) ≡ 0
-result_is_plain action.Note stands = refl
-result_is_plain (action.Launch link user sourced_id service) stands = refl
-result_is_plain (action.Replace id None) Unknown = refl
-result_is_plain (action.Replace id None) Empty = refl
-result_is_plain (action.Replace id None) (Scored old) = refl
-result_is_plain (action.Replace id (Some score)) Unknown = refl
-result_is_plain (action.Replace id (Some score)) Empty = refl
-result_is_plain (action.Replace id (Some score)) (Scored old) = refl
-result_is_plain (action.Read id) Unknown = refl
-result_is_plain (action.Read id) Empty = refl
-result_is_plain (action.Read id) (Scored old) = refl
-result_is_plain (action.Delete id) Unknown = refl
-result_is_plain (action.Delete id) Empty = refl
-result_is_plain (action.Delete id) (Scored old) = refl
-result_is_plain (action.Issue id) Unknown = refl
-result_is_plain (action.Issue id) Empty = refl
-result_is_plain (action.Issue id) (Scored old) = refl
-
-by_verdict_is_plain : (v : Verdict) (now : ℕ) (given : Reply) → kind given ≡ 0 → kind (reply_by v now given) ≡ 0
-by_verdict_is_plain nonce.New now given plain = plain
-by_verdict_is_plain nonce.Outside now given plain = refl
-by_verdict_is_plain nonce.Used now given plain = refl
-by_verdict_is_plain (nonce.WindowFull live) now given plain = refl
-
--- what the rules decide is a reply of theirs
-decided_is_plain : (entries : List Entry) (call : Call) (window : ℕ) → kind (decide entries call window) ≡ 0
-decided_is_plain entries call window =
-    let plain = result_is_plain call.action (standing_of entries call.key (id_of call.action)) in
-    cond_both (is_issue call.action) (result entries call) (reply_by (verdict_of entries call window) (now_of entries call) (result entries call)) (λ (r : Reply). kind r ≡ 0)
-    (λ _. plain)
-    (λ _. by_verdict_is_plain (verdict_of entries call window) (now_of entries call) (result entries call) plain)
-
-all_bounded : (entries : List Entry) → All IsInRange entries → All IsBounded entries
-all_bounded [] all = All-nil IsBounded
-all_bounded (e ∷ es) all = All-cons IsBounded e es (All-head IsInRange e es all).bounded (all_bounded es (All-tail IsInRange e es all))
 
 payloads_push : (entries : List Entry) (entry : Entry) → payloads (entries ++ entry ∷ []) ≡ payloads entries ++ entry_text entry ∷ []
 payloads_push [] entry = refl

@@ -4,6 +4,7 @@ ghost use Rattle.gate_journal.specs.Pieces.{payloads_of};
 ghost use Rattle.gate_journal.specs.declared.piece.Piece.{Piece};
 ghost use Rattle.lti_machine.specs.EntryBytes.{IsInRange};
 ghost use Rattle.lti_machine.specs.declared.entry.Entry.{Entry};
+ghost use Rattle.lti_desk.specs.Ledger.{HoldsAlike, HoldsDigest};
 ghost use Rattle.lti_desk.specs.Mounting.{AreEntries};
 ghost use Rattle.lti_desk.specs.Office.{payloads};
 
@@ -12,4 +13,10 @@ ghost use Rattle.lti_desk.specs.Office.{payloads};
 pub fn what_is_kept_is_read()
     ensures read { (pieces : List Piece) (entries : List Entry) → All IsInRange entries → payloads_of pieces ≡ payloads entries → AreEntries pieces entries }
     ensures one { (first second : List Entry) → All IsInRange first → All IsInRange second → payloads first ≡ payloads second → first ≡ second }
+{}
+
+/// A ledger holds each list of one summary, or none; so it holds the digest at the moment of its last entry with that entry.
+pub fn a_digest_is_held()
+    ensures alike { HoldsAlike }
+    ensures digest { HoldsDigest }
 {}

@@ -14,5 +14,5 @@ mod office;
 #[cfg(test)]
 mod tests;
 
-pub use laws::what_is_kept_is_read;
+pub use laws::{a_digest_is_held, what_is_kept_is_read};
 pub use office::Office;

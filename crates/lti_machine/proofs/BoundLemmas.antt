@@ -1,7 +1,7 @@
 -- The entries of sound calls are in their bounds.
 use Rattle.std.proofs.Common.{◌≤◌, List, [], ◌∷◌, length, All, ap, ⊎_elim, arith}
-use Rattle.std.proofs.lemmas.List.Elements.{All-head, All-tail}
-use Rattle.lti_machine.specs.EntryBytes.{IsBounded}
+use Rattle.std.proofs.lemmas.List.Elements.{All-nil, All-cons, All-head, All-tail}
+use Rattle.lti_machine.specs.EntryBytes.{IsBounded, IsInRange}
 use Rattle.lti_machine.specs.Rules.{high, now_of, entry_of}
 use Rattle.lti_machine.specs.Sound.{greatest_moment, IsSound}
 use Rattle.lti_machine.specs.declared.call.Call.{Call}
@@ -31,3 +31,8 @@ accepted_bounded entries call given all sound =
       stamped = (λ _. unstamped.timestamp, λ _. unstamped.nonce);
     })
     sound.stamp
+
+-- what is in range is in its bounds
+pub all_bounded : (entries : List Entry) → All IsInRange entries → All IsBounded entries
+all_bounded [] all = All-nil IsBounded
+all_bounded (e ∷ es) all = All-cons IsBounded e es (All-head IsInRange e es all).bounded (all_bounded es (All-tail IsInRange e es all))

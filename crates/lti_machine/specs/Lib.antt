@@ -7,3 +7,11 @@ pub mod Places
 pub mod Kept
 pub mod EntryBytes
 pub mod HeadView
+pub mod Rows
+pub mod Placements
+pub mod Used
+pub mod Summary
+pub mod Digest
+pub mod SummaryLaws
+pub mod History
+pub mod StandingLaws

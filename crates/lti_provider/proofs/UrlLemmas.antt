@@ -7,7 +7,7 @@ use Rattle.std.proofs.lemmas.Bool.Decides.{nat_tests}
 use Rattle.lti_outside.proofs.BoolLemmas.{and_split, or_split}
 use Rattle.oauth_text.specs.Host.{is_host, IsHostOf}
 use Rattle.oauth_text.specs.Url as url
-use Rattle.oauth_text.specs.Url.{UrlParts, IsUrl, host_len, host_text, target_text, path_len, path_of, query_of, is_https, is_http}
+use Rattle.oauth_text.specs.Url.{UrlParts, IsUrl, host_len, host_text, target_text, path_len, path_of, is_https, is_http}
 use Rattle.http_wire.specs.Head.{is_target_byte, is_target}
 use Rattle.http_wire.specs.Written.{is_path}
 use Rattle.http_wire.proofs.BackHost.{and_join, implied}

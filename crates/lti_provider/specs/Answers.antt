@@ -15,7 +15,7 @@ use Rattle.lti_launch.specs.declared.fault.LaunchFault.TheVariants as launch
 use Rattle.pox_outcomes.specs.Answered.{answer_text}
 use Rattle.pox_outcomes.specs.declared.outcome.Outcome.{Outcome}
 use Rattle.pox_outcomes.specs.declared.told.Told.{Told}
-use Rattle.lti_provider.specs.Outcomes.{IsTold}
+use Rattle.lti_asks.specs.Outcomes.{IsTold}
 use Rattle.lti_machine.specs.declared.reply.Reply.{Reply}
 use Rattle.lti_machine.specs.declared.reply.Reply.TheVariants as reply
 

@@ -7,8 +7,10 @@ use Rattle.http_wire.specs.Message.{RequestParts}
 use Rattle.http_wire.specs.Written.{is_media, IsSoundRequest}
 use Rattle.pox_outcomes.specs.Laws.{IsFitting}
 use Rattle.lti_machine.specs.declared.call.Action.{Action}
-use Rattle.lti_provider.specs.Before.{outcomes_path, IsAsked}
-use Rattle.lti_provider.specs.Outcomes.{IsAskedBy}
+use Rattle.lti_provider.specs.Before.{IsAsked}
+use Rattle.lti_provider.specs.Routes.{path_of}
+use Rattle.lti_provider.specs.declared.routes.Route.TheVariants.{Outcomes}
+use Rattle.lti_asks.specs.Outcomes.{IsAskedBy}
 use Rattle.lti_provider.specs.Passback.{Sending, IsPosted}
 
 -- the parts are those of some URL
@@ -27,5 +29,5 @@ abbrev pub SentIsAsked : Type 0
 SentIsAsked =
     (terms : Terms) (sending : Sending) (q : RequestParts) (action : Action)
     → CanSign sending.key sending.moment sending.nonce → AreTermsOf terms sending.url sending.key sending.secret sending.nonce
-    → sending.url.path ≡ outcomes_path → IsFitting sending.outcome → IsPosted sending q → IsAskedBy sending.outcome action
+    → sending.url.path ≡ path_of Outcomes → IsFitting sending.outcome → IsPosted sending q → IsAskedBy sending.outcome action
     → IsAsked terms q (record { key = sending.key; timestamp = sending.moment; nonce = sending.nonce; pairs = parameters q }) (Some sending.outcome) action

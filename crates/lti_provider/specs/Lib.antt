@@ -1,5 +1,5 @@
 pub mod Calls
-pub mod Outcomes
+pub mod Routes
 pub mod Answers
 pub mod Before
 pub mod Causes

@@ -1,7 +1,8 @@
 // What a signed message asks of the machine.
 ghost use Rattle.std.specs.Prelude.{◌≡◌, IfOk, IfErr};
-ghost use Rattle.lti_provider.specs.Calls as spec;
-ghost use Rattle.lti_provider.specs.Calls.{IsLaunchCall, IsFaultOf};
+ghost use Rattle.lti_asks.specs.Launches as spec;
+ghost use Rattle.lti_asks.specs.Launches.{IsLaunchCall};
+ghost use Rattle.lti_provider.specs.Calls.{IsFaultOf};
 
 use crate::ProviderFault;
 use lti_launch::{Launch, LaunchFault, LaunchField};

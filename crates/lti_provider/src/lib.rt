@@ -14,6 +14,7 @@ mod laws;
 mod passback_fault;
 #[cfg(test)]
 mod passback_tests;
+mod routes;
 mod sending;
 #[cfg(test)]
 mod tests;
@@ -22,4 +23,5 @@ pub use calls::launch_call;
 pub use fault::ProviderFault;
 pub use laws::{sent_is_asked, signed_is_writable};
 pub use passback_fault::PassbackFault;
+pub use routes::{Route, route_of};
 pub use sending::passback;

@@ -15,21 +15,22 @@ use Rattle.http_wire.specs.declared.fault.WireFault.{WireFault}
 use Rattle.http_wire.specs.declared.fault.WireFault.TheVariants as wire
 use Rattle.http_wire.proofs.UniqueLemmas.{one_spelling, none_without_head}
 use Rattle.http_wire.proofs.FirstLemmas.{faults_are_first}
-use Rattle.oauth_request.specs.Checked.{Terms, parameters}
-use Rattle.lti_launch.specs.Faults.{fault_of}
-use Rattle.lti_launch.specs.declared.fault.LaunchFault.{LaunchFault}
+use Rattle.oauth_request.specs.Checked.{Terms}
 use Rattle.oauth_request.specs.declared.checking.Signed.{Signed}
 use Rattle.oauth_request.proofs.OneAnswerLemmas as auth
 use Rattle.lti_machine.specs.declared.reply.Reply.{Reply}
 use Rattle.lti_provider.specs.Answers.{answer_to, auth_answer, launch_answer, envelope_answer, wire_answer, IsRendered}
-use Rattle.lti_provider.specs.Before.{is_for_launches, IsRefused, IsAsked, IsCall}
+use Rattle.lti_provider.specs.Before.{AsksNothing, Asks, IsRefused, IsAsked}
+use Rattle.lti_provider.specs.declared.routes.Route.{Route}
+use Rattle.lti_provider.specs.declared.routes.Route.TheVariants.{Launches, Outcomes}
 use Rattle.pox_outcomes.specs.Request.{IsEnvelope, EnvelopeOf}
 use Rattle.pox_outcomes.specs.BadAt.{IsBadAt}
 use Rattle.pox_outcomes.specs.declared.outcome.Outcome.{Outcome}
 use Rattle.pox_outcomes.proofs.DocumentLemmas.{envelope_once}
 use Rattle.pox_outcomes.proofs.EndLemmas.{document_once}
 use Rattle.lti_machine.specs.declared.call.Action.{Action}
-use Rattle.lti_server.specs.Exchange.{Service, Member, Exchange, Progress, IsAnswer, Runs, told_by, read_of, written_of, told_of, ends_with}
+use Rattle.lti_machine.specs.History.{Member}
+use Rattle.lti_server.specs.Exchange.{Service, Exchange, Progress, IsAnswerTo, Runs, told_by, read_of, written_of, told_of, ends_with}
 use Rattle.lti_server.specs.Talk.{EndTells, last_answer}
 use Rattle.lti_server.specs.Laws.{IsUndisturbed, replies_of, CutsDoNotMatter}
 use Rattle.lti_server.specs.declared.session_end.SessionEnd.{SessionEnd}
@@ -179,48 +180,52 @@ not_both o x one other = let e = sym one ∙ other in cc
 one_place : (bytes : List ℕ) (a b : ℕ) → IsBadAt EnvelopeOf bytes a → IsBadAt EnvelopeOf bytes b → a ≡ b
 one_place bytes a b one other = omega (arith, one.longest b other.within other.begins, other.longest a one.within one.begins)
 
+-- a route's message that asks nothing has one answer
+nothing_unique : (route : Route) (q : RequestParts) (a b : ResponseParts) → AsksNothing route q a → AsksNothing route q b → a ≡ b
+nothing_unique Launches q a b x y = x.2 ∙ ap launch_answer (same_some _ x.0 y.0 x.1 y.1) ∙ sym y.2
+nothing_unique Outcomes q a b x y = x.2 ∙ ap envelope_answer (one_place q.body x.0 y.0 x.1 y.1) ∙ sym y.2
+
 -- a refusal has one answer
 refused_unique : (terms : Terms) (q : RequestParts) (a b : ResponseParts) → IsRefused terms q a → IsRefused terms q b → a ≡ b
 refused_unique terms q a b (inl x) (inl y) = x.answer_is ∙ ap (λ r. answer_to q r) (same_some _ x.refusal y.refusal x.refused y.refused) ∙ sym y.answer_is
 refused_unique terms q a b (inl x) (inr (inl y)) = absurd (not_both _ x.refusal x.refused y.routed)
-refused_unique terms q a b (inl x) (inr (inr (inl y))) = absurd (not_both _ x.refusal x.refused y.routed)
-refused_unique terms q a b (inl x) (inr (inr (inr y))) = absurd (not_both _ x.refusal x.refused y.routed)
+refused_unique terms q a b (inl x) (inr (inr y)) = absurd (not_both _ x.refusal x.refused y.routed)
 refused_unique terms q a b (inr (inl x)) (inl y) = absurd (not_both _ y.refusal y.refused x.routed)
-refused_unique terms q a b (inr (inr (inl x))) (inl y) = absurd (not_both _ y.refusal y.refused x.routed)
-refused_unique terms q a b (inr (inr (inr x))) (inl y) = absurd (not_both _ y.refusal y.refused x.routed)
+refused_unique terms q a b (inr (inr x)) (inl y) = absurd (not_both _ y.refusal y.refused x.routed)
 refused_unique terms q a b (inr (inl x)) (inr (inl y)) =
     x.answer_is ∙ ap auth_answer ((auth.one_answer terms q).one x.fault y.fault x.is_fault y.is_fault x.known y.known) ∙ sym y.answer_is
-refused_unique terms q a b (inr (inl x)) (inr (inr (inl y))) = absurd (x.known ((auth.one_answer terms q).none x.fault y.well_signed x.is_fault))
-refused_unique terms q a b (inr (inl x)) (inr (inr (inr y))) = absurd (x.known ((auth.one_answer terms q).none x.fault y.well_signed x.is_fault))
-refused_unique terms q a b (inr (inr (inl x))) (inr (inl y)) = absurd (y.known ((auth.one_answer terms q).none y.fault x.well_signed y.is_fault))
-refused_unique terms q a b (inr (inr (inr x))) (inr (inl y)) = absurd (y.known ((auth.one_answer terms q).none y.fault x.well_signed y.is_fault))
-refused_unique terms q a b (inr (inr (inl x))) (inr (inr (inl y))) = x.answer_is ∙ ap launch_answer (same_some _ x.fault y.fault x.is_fault y.is_fault) ∙ sym y.answer_is
-refused_unique terms q a b (inr (inr (inl x))) (inr (inr (inr y))) = absurd (both (is_for_launches q) x.path y.path)
-refused_unique terms q a b (inr (inr (inr x))) (inr (inr (inl y))) = absurd (both (is_for_launches q) y.path x.path)
-refused_unique terms q a b (inr (inr (inr x))) (inr (inr (inr y))) = x.answer_is ∙ ap envelope_answer (one_place q.body x.at y.at x.is_bad y.is_bad) ∙ sym y.answer_is
+refused_unique terms q a b (inr (inl x)) (inr (inr y)) = absurd (x.known ((auth.one_answer terms q).none x.fault y.well_signed x.is_fault))
+refused_unique terms q a b (inr (inr x)) (inr (inl y)) = absurd (y.known ((auth.one_answer terms q).none y.fault x.well_signed y.is_fault))
+refused_unique terms q a b (inr (inr x)) (inr (inr y)) =
+    nothing_unique y.route q a b (subst (λ (r : Route). AsksNothing r q a) (same_some _ x.route y.route x.route_is y.route_is) x.nothing) y.nothing
 
--- a request that has no launch, or no envelope, asks nothing
-no_launch_asked : (q : RequestParts) (fault : LaunchFault) → is_for_launches q ≡ true → fault_of (parameters q) ≡ Some fault → (outcome : Option Outcome) (action : Action) → IsCall q outcome action → ⊥
-no_launch_asked q fault path is None action call = not_both _ fault is call.1.faultless
-no_launch_asked q fault path is (Some o) action call = both (is_for_launches q) path call.0
-
-no_envelope_asked : (q : RequestParts) (at : ℕ) → is_for_launches q ≡ false → IsBadAt EnvelopeOf q.body at → (outcome : Option Outcome) (action : Action) → IsCall q outcome action → ⊥
-no_envelope_asked q at path is None action call = both (is_for_launches q) call.0 path
-no_envelope_asked q at path is (Some o) action call = is.none o call.1.spelled
+-- a message that asks nothing asks nothing
+not_asked : (route : Route) (q : RequestParts) (a : ResponseParts) (outcome : Option Outcome) (action : Action) → AsksNothing route q a → Asks route q outcome action → ⊥
+not_asked Launches q a None action x call = not_both _ x.0 x.1 call.faultless
+not_asked Launches q a (Some o) action x call = call
+not_asked Outcomes q a None action x call = call
+not_asked Outcomes q a (Some o) action x call = x.1.none o call.spelled
 
 -- no request is refused and asked
 refused_not_asked : (terms : Terms) (q : RequestParts) (a : ResponseParts) (signed : Signed) (outcome : Option Outcome) (action : Action) → IsRefused terms q a → IsAsked terms q signed outcome action → ⊥
 refused_not_asked terms q a signed outcome action (inl x) asked = not_both _ x.refusal x.refused asked.routed
 refused_not_asked terms q a signed outcome action (inr (inl x)) asked = x.known ((auth.one_answer terms q).none x.fault asked.well_signed x.is_fault)
-refused_not_asked terms q a signed outcome action (inr (inr (inl x))) asked = no_launch_asked q x.fault x.path x.is_fault outcome action asked.call
-refused_not_asked terms q a signed outcome action (inr (inr (inr x))) asked = no_envelope_asked q x.at x.path x.is_bad outcome action asked.call
+refused_not_asked terms q a signed outcome action (inr (inr x)) asked =
+    not_asked asked.route q a outcome action (subst (λ (r : Route). AsksNothing r q a) (same_some _ x.route asked.route x.route_is asked.route_is) x.nothing) asked.call
 
 -- a request asks for one outcome, or for none
-outcome_once : (q : RequestParts) (o o' : Option Outcome) (a a' : Action) → IsCall q o a → IsCall q o' a' → o ≡ o'
-outcome_once q None None a a' one other = refl
-outcome_once q (Some o) (Some o') a a' one other = ap Some (document_once IsEnvelope envelope_once q.body o o' one.1.spelled other.1.spelled)
-outcome_once q None (Some o') a a' one other = absurd (both (is_for_launches q) one.0 other.0)
-outcome_once q (Some o) None a a' one other = absurd (both (is_for_launches q) other.0 one.0)
+outcome_once : (route : Route) (q : RequestParts) (o o' : Option Outcome) (a a' : Action) → Asks route q o a → Asks route q o' a' → o ≡ o'
+outcome_once Launches q None None a a' one other = refl
+outcome_once Launches q (Some o) o' a a' one other = absurd one
+outcome_once Launches q None (Some o') a a' one other = absurd other
+outcome_once Outcomes q (Some o) (Some o') a a' one other = ap Some (document_once IsEnvelope envelope_once q.body o o' one.spelled other.spelled)
+outcome_once Outcomes q None o' a a' one other = absurd one
+outcome_once Outcomes q (Some o) None a a' one other = absurd other
+
+-- whichever route it is read by
+same_outcome : (terms : Terms) (q : RequestParts) (s s' : Signed) (o o' : Option Outcome) (a a' : Action) → IsAsked terms q s o a → IsAsked terms q s' o' a' → o ≡ o'
+same_outcome terms q s s' o o' a a' one other =
+    outcome_once other.route q o o' a a' (subst (λ (r : Route). Asks r q o a) (same_some _ one.route other.route one.route_is other.route_is) one.call) other.call
 
 abbrev first_reply : List Reply → Reply → Reply
 first_reply [] other = other
@@ -236,14 +241,14 @@ service limits keys scheme caller clock = record { limits = limits; caller = cal
 module _ (limits : Limits) (keys : List Pair) (scheme : Scheme) (n m : ℕ) (c d : Option ℕ) where
   -- a request has one answer, by the reply to it
   one_answer : (q : RequestParts) (r r' : ResponseParts) (ms ms' : List Member) (o o' : Option Member)
-      → IsAnswer (service limits keys scheme n c) q o r → IsAnswer (service limits keys scheme m d) q o' r'
+      → IsAnswerTo (service limits keys scheme n c) q o r → IsAnswerTo (service limits keys scheme m d) q o' r'
       → replies_of (told_by o ++ ms) ≡ replies_of (told_by o' ++ ms') → (r ≡ r') × (replies_of ms ≡ replies_of ms')
   one_answer q r r' ms ms' None None one other same = (refused_unique _ q r r' one other, same)
   one_answer q r r' ms ms' (Some a) (Some b) one other same =
-      let outcomes : one.1 ≡ other.1 = outcome_once q one.1 other.1 _ _ one.2.call other.2.call in
-      let replies : a.reply ≡ b.reply = ap (λ rs. first_reply rs a.reply) same in (
-        rendered_once other.1 b.reply r r'
-            (subst (λ (o : Option Outcome). IsRendered o b.reply r) outcomes (subst (λ (x : Reply). IsRendered one.1 x r) replies one.4)) other.4,
+      let outcomes : one.1 ≡ other.1 = same_outcome _ q one.0 other.0 one.1 other.1 _ _ one.2 other.2 in
+      let replies : a.1 ≡ b.1 = ap (λ rs. first_reply rs a.1) same in (
+        rendered_once other.1 b.1 r r'
+            (subst (λ (o : Option Outcome). IsRendered o b.1 r) outcomes (subst (λ (x : Reply). IsRendered one.1 x r) replies one.4)) other.4,
         ap later_replies same,
       )
   one_answer q r r' ms ms' None (Some b) one other same = absurd (refused_not_asked _ q r other.0 other.1 _ one other.2)
@@ -270,7 +275,7 @@ module _ (limits : Limits) (keys : List Pair) (scheme : Scheme) (n m : ℕ) (c d
         let begin = one_spelling limits e.spelled f.spelled (read_of es ++ x) (read_of fs ++ x') e.request f.request one.2.spelling other.2.spelling
         (sym (append_assoc e.spelled (read_of es) x) ∙ is ∙ append_assoc f.spelled (read_of fs) x') in
         let answer = one_answer e.request e.answer f.answer (told_of es) (told_of fs) e.told f.told one.2.answer
-        (subst (λ (q : RequestParts). IsAnswer (service limits keys scheme m d) q f.told f.answer) (sym begin.1) other.2.answer) same in
+        (subst (λ (q : RequestParts). IsAnswerTo (service limits keys scheme m d) q f.told f.answer) (sym begin.1) other.2.answer) same in
         let ends : e.ends ≡ f.ends = one.2.ends ∙ ap (λ (q : RequestParts). ends_with limits p.count q) begin.1 ∙ sym other.2.ends in
         let more = same_run es fs record { count = p.count + 1; over = e.ends } one.3
         (subst (λ (b : Bool). Runs (service limits keys scheme m d) record { count = p.count + 1; over = b } fs s') (sym ends) other.3) begin.2 answer.1 in

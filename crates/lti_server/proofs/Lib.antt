@@ -1,16 +1,6 @@
-pub mod WordLemmas
-pub mod LineLemmas
-pub mod SoFarLemmas
-pub mod FeedLemmas
-pub mod TurnLemmas
 pub mod TalkLemmas
 pub mod EndLemmas
 pub mod RenderLemmas
-pub mod SettingsLemmas
 pub mod CutLemmas
 pub mod BeforeLemmas
-pub mod MadeLemmas
-pub mod ReportLemmas
-pub mod DoneLemmas
-pub mod ReplayLemmas
-pub mod GradeLemmas
+pub mod RanLemmas

@@ -15,12 +15,14 @@ use Rattle.pox_outcomes.specs.declared.outcome.Operation.TheVariants.{ReplaceRes
 use Rattle.oauth_request.specs.Checked.{parameters}
 use Rattle.lti_launch.specs.Launch.{launch_of}
 use Rattle.lti_launch.specs.declared.fields.LaunchField.TheVariants.{ResourceLinkId, UserId, LisResultSourcedid, LisOutcomeServiceUrl}
-use Rattle.lti_provider.specs.Calls.{text_of}
-use Rattle.lti_provider.specs.Outcomes.{IsAskedBy, IsTold, asks}
+use Rattle.lti_asks.specs.Launches.{text_of}
+use Rattle.lti_asks.specs.Outcomes.{IsAskedBy, IsTold, asks}
 use Rattle.lti_provider.specs.Answers.{plain_answer, IsRendered, told_answer}
-use Rattle.lti_provider.specs.Before.{IsCall}
-use Rattle.lti_consumer.specs.Outcomes.{is_of_outcomes}
-use Rattle.lti_consumer.proofs.OutcomeLemmas.{accepted_is_told, one_telling}
+use Rattle.lti_provider.specs.Before.{Asks}
+use Rattle.lti_provider.specs.declared.routes.Route.{Route}
+use Rattle.lti_provider.specs.declared.routes.Route.TheVariants.{Launches, Outcomes}
+use Rattle.lti_asks.specs.Outcomes.{is_of_outcomes}
+use Rattle.lti_asks.proofs.OutcomeLemmas.{accepted_is_told, one_telling}
 use Rattle.lti_server.specs.State.{SessionState}
 use Rattle.lti_server.specs.Exchange.{Service, Progress, ends_with}
 use Rattle.lti_server.specs.Talk.{Waits, IsOwed, HasAnswer}
@@ -81,18 +83,20 @@ outcome_rendered o asked AlreadyIssued is fits =
     absurd ((never_issued o.operation o.sourced_id is.score).1 (ap (λ a. belongs a AlreadyIssued) (sym is.action_is) ∙ fits))
 
 -- what belongs to what a request asks has an answer
-call_rendered : (q : RequestParts) (outcome : Option Outcome) (asked : Action) (reply : Reply) → IsCall q outcome asked → belongs asked reply ≡ true → (answer : ResponseParts) × IsRendered outcome reply answer
-call_rendered q None asked reply is fits =
+call_rendered : (route : Route) (q : RequestParts) (outcome : Option Outcome) (asked : Action) (reply : Reply) → Asks route q outcome asked → belongs asked reply ≡ true → (answer : ResponseParts) × IsRendered outcome reply answer
+call_rendered Launches q None asked reply is fits =
     let launch = launch_of (parameters q) in
     plain_of_launch (text_of launch ResourceLinkId) (text_of launch UserId) (text_of launch LisResultSourcedid) (text_of launch LisOutcomeServiceUrl) reply
-    (ap (λ a. belongs a reply) (sym is.1.action_is) ∙ fits)
-call_rendered q (Some o) asked reply is fits = outcome_rendered o asked reply is.1.asked fits
+    (ap (λ a. belongs a reply) (sym is.action_is) ∙ fits)
+call_rendered Launches q (Some o) asked reply is fits = absurd is
+call_rendered Outcomes q None asked reply is fits = absurd is
+call_rendered Outcomes q (Some o) asked reply is fits = outcome_rendered o asked reply is.asked fits
 
 -- the answer that is owed to the call that waits
 pub answer_owed : (service : Service) (to : Progress) (rest : List ℕ) (new : SessionState) (call : Call) → Waits service to rest new call
     → (reply : Reply) → belongs call.action reply ≡ true → HasAnswer new.pending reply
 answer_owed service to rest new call waits reply fits =
-    let answer = call_rendered waits.request waits.outcome call.action reply waits.asked.call fits in
+    let answer = call_rendered waits.asked.route waits.request waits.outcome call.action reply waits.asked.call fits in
     let bytes = response_text answer.0 (ends_with service.limits to.count waits.request) in
     (bytes, subst (λ p. IsOwed p reply bytes) (sym waits.pending) (answer.0, answer.1, refl))
 

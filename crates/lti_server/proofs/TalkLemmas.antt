@@ -14,12 +14,11 @@ use Rattle.lti_machine.specs.declared.call.Call.{Call}
 use Rattle.lti_machine.specs.declared.reply.Reply.{Reply}
 use Rattle.lti_server.specs.declared.session_end.SessionEnd.{SessionEnd}
 use Rattle.lti_server.specs.declared.session_end.SessionEnd.TheVariants.{Ended, LimitReached, CutShort, ReadFault, WriteFault, Refused, NoMemory}
-use Rattle.lti_machine.specs.Rules.{decide, after, Answers}
-use Rattle.lti_machine.specs.declared.entry.Entry.{Entry}
-use Rattle.lti_server.specs.History.{Leads}
+use Rattle.lti_machine.specs.Rules.{after}
 use Rattle.lti_provider.specs.Answers.{wire_answer, no_memory_answer}
+use Rattle.lti_machine.specs.History.{Member}
 use Rattle.lti_server.specs.State.{SessionState}
-use Rattle.lti_server.specs.Exchange.{Service, Member, Exchange, Progress, IsExchange, Runs, told_by, read_of, written_of, told_of, ends_with}
+use Rattle.lti_server.specs.Exchange.{Service, Exchange, Progress, IsExchange, Runs, told_by, read_of, written_of, told_of, ends_with}
 use Rattle.lti_server.specs.Talk.{EndTells, Stage, answered, waiting, ended, StageTells, Talks, Spoken, Transcript, last_answer, IsOwed, ends_then}
 
 abbrev progress : SessionState → Progress
@@ -178,7 +177,7 @@ module _ (t : Service) (b c : Traffic) (old mid new : SessionState) (r v w whole
   before_it = record { kept = talks.stage_is.2.spelled ++ mid.kept; caller = mid.caller; count = talks.to.count; over = talks.to.over; pending = None; ended = false }
 
   abbrev member : Member
-  member = record { call = call; reply = reply }
+  member = (call, reply)
 
   abbrev exchange : Exchange
   exchange =
@@ -238,12 +237,3 @@ module _ (t : Service) (b c : Traffic) (old mid new : SessionState) (r v w whole
       → Talks t c old new r (v ++ w) (told ++ member ∷ []) fault (ended WriteFault)
   told_cut bad cut is =
       Talks-tell (ended WriteFault) ((bad, inl (subst (λ (x : List ℕ). IsProperPrefix w x) owed.2 cut)), is)
-
--- one call more
-pub Leads-push : (window : ℕ) (call : Call) (reply : Reply) (ms : List Member) (from mid : List Entry)
-    → Leads window from ms mid → Answers (decide mid call window) reply
-    → Leads window from (ms ++ record { call = call; reply = reply } ∷ []) (after mid call reply)
-Leads-push window call reply [] from mid leads last =
-    (subst (λ (x : List Entry). Answers (decide x call window) reply) leads last, ap (λ (x : List Entry). after x call reply) leads)
-Leads-push window call reply (m ∷ ms) from mid leads last =
-    (leads.0, Leads-push window call reply ms (after from m.call m.reply) mid leads.1 last)

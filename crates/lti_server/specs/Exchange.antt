@@ -10,8 +10,8 @@ use Rattle.http_wire.specs.Spelling.{Spelling}
 use Rattle.http_wire.specs.Response.{response_text}
 use Rattle.oauth_request.specs.Checked as checked
 use Rattle.oauth_request.specs.declared.checking.Signed.{Signed}
+use Rattle.lti_machine.specs.History.{Member}
 use Rattle.lti_machine.specs.declared.call.Call.{Call}
-use Rattle.lti_machine.specs.declared.reply.Reply.{Reply}
 use Rattle.pox_outcomes.specs.declared.outcome.Outcome.{Outcome}
 use Rattle.lti_provider.specs.Answers.{IsRendered}
 use Rattle.lti_provider.specs.Before.{IsRefused, IsAsked}
@@ -28,11 +28,6 @@ pub record Service : Type 0 where
 -- what its requests are checked under
 abbrev pub terms_of : Service → checked.Terms
 terms_of service = record { keys = service.keys; scheme = service.scheme; field = service.limits.field }
-
--- a call and the reply to it
-pub record Member : Type 0 where
-  pub call : Call
-  pub reply : Reply
 
 -- one request: its bytes, its parts, what was asked of the machine for it, its answer, and whether the connection ends
 -- with that
@@ -52,11 +47,11 @@ pub record IsCallOf (service : Service) (signed : Signed) (call : Call) : Type 0
   pub nonce : call.nonce ≡ signed.nonce
 
 -- the answer is given before the machine is asked, or renders the reply to the request's call
-abbrev pub IsAnswer : Service → RequestParts → Option Member → ResponseParts → Type 0
-IsAnswer service q None answer = IsRefused (terms_of service) q answer
-IsAnswer service q (Some member) answer =
-    (signed : Signed) × (outcome : Option Outcome) × IsAsked (terms_of service) q signed outcome member.call.action
-    × IsCallOf service signed member.call × IsRendered outcome member.reply answer
+abbrev pub IsAnswerTo : Service → RequestParts → Option Member → ResponseParts → Type 0
+IsAnswerTo service q None answer = IsRefused (terms_of service) q answer
+IsAnswerTo service q (Some member) answer =
+    (signed : Signed) × (outcome : Option Outcome) × IsAsked (terms_of service) q signed outcome member.0.action
+    × IsCallOf service signed member.0 × IsRendered outcome member.1 answer
 
 -- the connection ends with the answer to this request, where `count` came before it
 abbrev pub ends_with : Limits → ℕ → RequestParts → Bool
@@ -64,7 +59,7 @@ ends_with limits count q = q.close || nat_le limits.requests (count + 1)
 
 pub record IsExchange (service : Service) (count : ℕ) (e : Exchange) : Type 0 where
   pub spelling : Spelling service.limits e.spelled e.request
-  pub answer : IsAnswer service e.request e.told e.answer
+  pub answer : IsAnswerTo service e.request e.told e.answer
   pub ends : e.ends ≡ ends_with service.limits count e.request
 
 -- how many requests were answered, and whether the last answer ended the connection

@@ -8,6 +8,7 @@ use Rattle.http_wire.specs.Response.{response_text}
 use Rattle.http_wire.specs.declared.fault.WireFault.{WireFault}
 use Rattle.http_wire.specs.declared.fault.WireFault.TheVariants as wire
 use Rattle.oauth_request.specs.declared.checking.Signed.{Signed}
+use Rattle.lti_machine.specs.History.{Member}
 use Rattle.lti_machine.specs.Sound.{IsSound}
 use Rattle.lti_machine.specs.declared.call.Call.{Call}
 use Rattle.lti_machine.specs.declared.reply.Reply.{Reply}
@@ -15,11 +16,11 @@ use Rattle.pox_outcomes.specs.declared.outcome.Outcome.{Outcome}
 use Rattle.lti_provider.specs.Answers.{IsRendered, wire_answer, no_memory_answer}
 use Rattle.lti_provider.specs.Before.{IsAsked}
 use Rattle.lti_server.specs.State.{SessionState, Owed}
-use Rattle.lti_server.specs.Exchange.{Service, terms_of, Member, Exchange, Progress, IsCallOf, ends_with, Runs, read_of, written_of, told_of}
+use Rattle.lti_server.specs.Exchange.{Service, terms_of, Exchange, Progress, IsCallOf, ends_with, Runs, read_of, written_of, told_of}
 use Rattle.lti_server.specs.declared.asks.Ask.{Ask}
 use Rattle.lti_server.specs.declared.asks.Ask.TheVariants.{Call as Called, End}
 use Rattle.lti_server.specs.declared.asks.Next.{Next}
-use Rattle.lti_server.specs.declared.asks.Next.TheVariants.{Answered, Asked, Over}
+use Rattle.lti_server.specs.declared.asks.Next.TheVariants.{Refused as Declined, Asked, Over}
 use Rattle.lti_server.specs.declared.session_end.SessionEnd.{SessionEnd}
 use Rattle.lti_server.specs.declared.session_end.SessionEnd.TheVariants.{Ended, LimitReached, CutShort, ReadFault, WriteFault, Refused, NoMemory}
 
@@ -124,15 +125,15 @@ stage_of (End end) = ended end
 
 -- how far one message came
 abbrev pub next_stage : Next → Stage
-next_stage Answered = answered
+next_stage Declined = answered
 next_stage (Asked call) = waiting call
 next_stage (Over end) = ended end
 
 -- a fact where the message was answered
-abbrev pub OnAnswered : Next → Type 0 → Type 0
-OnAnswered Answered P = P
-OnAnswered (Asked call) P = ⊤
-OnAnswered (Over end) P = ⊤
+abbrev pub OnRefused : Next → Type 0 → Type 0
+OnRefused Declined P = P
+OnRefused (Asked call) P = ⊤
+OnRefused (Over end) P = ⊤
 
 -- the bytes answer the call that waits with this reply
 abbrev pub IsOwed : Option Owed → Reply → List ℕ → Type 0

@@ -65,7 +65,7 @@ fn answered(
         ends,
         &FixedClock::new(1_400_000_000),
         &mut ListRandom::new(Vec::new(alloc)),
-        &crate::tests::scales(alloc)?,
+        &crate::command_tests::scales(alloc)?,
         limits,
     ))
 }
@@ -349,64 +349,6 @@ fn faults_of_the_ends(rt: HostRuntime) -> Result<(), Fail> {
     let mut ends = link(alloc, text, 4_096, &[], &[1])?;
     assert_eq!(rt; answered(&rt, alloc, &mut settings, &mut ends, &usual)?, 5);
     assert_eq!(rt; ends.given(), ACCEPTED.as_bytes());
-    Ok(())
-}
-
-#[test]
-fn settings_with_and_without_a_reading(rt: HostRuntime) -> Result<(), Fail> {
-    let alloc = rt.alloc();
-    let usual = Limits::usual();
-    for (text, want) in [
-        (
-            "{\"scheme\":\"https\",\"keys\":[{\"key\":\"12345\",\"secret\":\"secret\"}]}",
-            0,
-        ),
-        (
-            " {\"other\":1,\"keys\":[{\"key\":\"a\",\"secret\":\"\"}],\"scheme\":\"http\"}\n",
-            0,
-        ),
-        (
-            "{\"scheme\":\"ftp\",\"keys\":[{\"key\":\"a\",\"secret\":\"\"}]}",
-            3,
-        ),
-        ("{\"scheme\":\"http\",\"keys\":[]}", 3),
-        (
-            "{\"scheme\":\"http\",\"keys\":[{\"key\":\"a\",\"secret\":\"\"},{\"key\":\"a\",\"secret\":\"\"}]}",
-            3,
-        ),
-        ("{\"scheme\":\"http\",\"keys\":[{\"key\":\"a\"}]}", 3),
-        (
-            "{\"scheme\":\"http\",\"keys\":[{\"key\":1,\"secret\":\"\"}]}",
-            3,
-        ),
-        (
-            "{\"scheme\":\"http\",\"keys\":[{\"key\":\"\",\"secret\":\"\"}]}",
-            3,
-        ),
-        (
-            "{\"scheme\":\"http\",\"keys\":[{\"key\":\"0000000000000000000000000000000000000000000000000000000000000000000000000000000000000000000000000000000000000000000000000000000000000000000000000000000000000000000000000000000000000000000000000000000000000000000000000000000000000000000000000000000000000001\",\"secret\":\"\"}]}",
-            3,
-        ),
-        (
-            "[{\"scheme\":\"https\",\"keys\":[{\"key\":\"12345\",\"secret\":\"secret\"}]}]",
-            3,
-        ),
-        (
-            "{\"scheme\":\"https\",\"keys\":[{\"key\":\"12345\",\"secret\":\"secret\"}]},",
-            3,
-        ),
-        ("{}", 3),
-        ("", 3),
-    ] {
-        let mut settings = source(alloc, text.as_bytes(), 7, &[])?;
-        let mut ends = link(alloc, b"", 1, &[], &[])?;
-        let status = answered(&rt, alloc, &mut settings, &mut ends, &usual)?;
-        assert_eq!(rt; status, want, "at {text}");
-    }
-    let spaces = vec![in alloc; b' '; 1_048_577]?;
-    let mut over = source(alloc, &spaces, 65_536, &[])?;
-    let mut ends = link(alloc, b"", 1, &[], &[])?;
-    assert_eq!(rt; answered(&rt, alloc, &mut over, &mut ends, &usual)?, 3);
     Ok(())
 }
 

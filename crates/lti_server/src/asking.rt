@@ -8,11 +8,11 @@ use crate::before::{Before, judge};
 use crate::pending::{Pending, reserve_answer};
 use crate::rendering::render_into;
 use crate::session_end::SessionEnd;
-use crate::settings::Settings;
 use crate::wire_faults::refuse;
 use http_wire::{Request, Wire, WireFault, write_answer, write_response};
 use lti_machine::{Action, Call, Reply};
 use lti_outside::{Clock, Limits, Link, WriteFault};
+use lti_settings::Settings;
 use oauth_request::Signed;
 use oauth_sign::BodyHash;
 use std::alloc::Global;
@@ -54,12 +54,12 @@ fn ends_with(request: &Request, count: u32, limits: &Limits) -> bool
     ensures fits { count + 1 < 2 ^ 32 }
     ensures ends { result ≡ exchange.ends_with limits.now count (parts_of request.now) }
 {
-    let most = limits.requests;
-    request.close || count + 1 >= most
+    let allowed = limits.requests;
+    request.close || count + 1 >= allowed
 }
 
 // The call that a well signed request makes.
-fn call_of(caller: u32, moment: u64, signed: Signed, action: Action) -> Call
+fn signed_call(caller: u32, moment: u64, signed: Signed, action: Action) -> Call
     ensures { result ≡ record { caller = caller; moment = moment; key = signed.key; timestamp = signed.timestamp; nonce = signed.nonce; action = action } }
 {
     Call {
@@ -73,13 +73,13 @@ fn call_of(caller: u32, moment: u64, signed: Signed, action: Action) -> Call
 }
 
 impl Session {
-    ghost use Rattle.std.specs.Prelude.{◌≡◌, ◌≤◌, ◌<◌, ◌+◌, ℕ, List, [], ◌++◌, true, false, None, is_some, IsSome, OnOk, OnErr};
+    ghost use Rattle.std.specs.Prelude.{◌≡◌, ◌<◌, ◌+◌, ℕ, List, [], ◌++◌, true, false, None, is_some, OnOk, OnErr};
     ghost use Rattle.sha1.specs.Sha1.{sha1};
     ghost use Rattle.lti_outside.specs.Limits.{IsSound};
     ghost use Rattle.lti_outside.specs.Traffic.{Moves, Fault, no_fault, GivesFront};
     ghost use Rattle.http_wire.specs.Message.{parts_of};
     ghost use Rattle.http_wire.specs.Spelling.{Spelling};
-    ghost use Rattle.lti_server.specs.Talk.{Talks, Spoken, stage_of, next_stage, OnAnswered, IsOwed, HasAnswer, ends_then};
+    ghost use Rattle.lti_server.specs.Talk.{Talks, Spoken, stage_of, next_stage, OnRefused, IsOwed, HasAnswer, ends_then};
 
     /// A session of a connection from which nothing was taken. `caller` is the number that its calls have.
     pub fn new(caller: u32) -> Session
@@ -131,16 +131,23 @@ impl Session {
             → Talks (record { limits = limits.now; caller = self.old.caller; keys = settings.now.keys; scheme = settings.now.scheme; clock = C.tells clock.now })
             (L.traffic link.new) (record self.old { kept = spelled ++ self.old.kept }) self.new [] written [] fault (next_stage result)) }
         ensures caller { self.new.caller ≡ self.old.caller }
-        ensures count { OnAnswered result (self.new.count ≡ self.old.count + 1) }
+        ensures count { OnRefused result (self.new.count ≡ self.old.count + 1) }
     {
         let ends = ends_with(&request, self.count, limits);
-        match judge(alloc, &request, body_sum, settings, limits) {
+        match judge(
+            alloc,
+            &request,
+            body_sum,
+            &settings.keys,
+            settings.scheme,
+            limits,
+        ) {
             Ok(Before::Refused(response)) => {
                 self.count += 1;
                 match write_response(link, &response, ends) {
                     Ok(()) => {
                         self.over = ends;
-                        Next::Answered
+                        Next::Refused
                     }
                     Err(_) => {
                         self.ended = true;
@@ -158,7 +165,7 @@ impl Session {
                 Ok(pending) => {
                     self.count += 1;
                     self.pending = Some(pending);
-                    Next::Asked(call_of(self.caller, clock.now(), signed, action))
+                    Next::Asked(signed_call(self.caller, clock.now(), signed, action))
                 }
                 Err(_) => {
                     self.ended = true;
@@ -187,7 +194,7 @@ impl Session {
         ensures talk { Spoken (record { limits = limits.now; caller = self.old.caller; keys = settings.now.keys; scheme = settings.now.scheme; clock = C.tells clock.now })
             (L.traffic link.old) (L.traffic link.new) self.old self.new [] (next_stage result) }
         ensures caller { self.new.caller ≡ self.old.caller }
-        ensures count { OnAnswered result ((self.new.count ≡ self.old.count + 1) × (self.old.count < limits.now.requests)) }
+        ensures count { OnRefused result ((self.new.count ≡ self.old.count + 1) × (self.old.count < limits.now.requests)) }
     {
         if self.count >= limits.requests {
             self.ended = true;
@@ -241,7 +248,7 @@ impl Session {
     {
         'messages: loop {
             match self.next(alloc, link, settings, clock, limits) {
-                Next::Answered => {}
+                Next::Refused => {}
                 Next::Asked(call) => return Ask::Call(call),
                 Next::Over(end) => return Ask::End(end),
             }

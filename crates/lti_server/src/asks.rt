@@ -14,7 +14,10 @@ pub enum Ask {
 /// What comes of one message.
 #[derive(Drop)]
 pub enum Next {
-    Answered,
+    /// It was answered before the machine is asked.
+    Refused,
+    /// The machine is asked this.
     Asked(Call),
+    /// The connection has ended so.
     Over(SessionEnd),
 }

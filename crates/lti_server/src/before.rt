@@ -4,18 +4,16 @@ ghost use Rattle.sha1.specs.Sha1.{sha1};
 ghost use Rattle.lti_outside.specs.Limits.{IsSound};
 ghost use Rattle.http_wire.specs.Message.{parts_of};
 ghost use Rattle.oauth_request.specs.Checked.{parameters};
-ghost use Rattle.lti_provider.specs.Before.{is_for_launches};
-ghost use Rattle.lti_server.specs.BeforeView.{IsBefore, IsJudged, is_launches};
+ghost use Rattle.lti_server.specs.BeforeView.{IsBefore, IsJudged};
 
 use crate::refusals::{auth_response, envelope_response, launch_response, route_response};
-use crate::routes::{Route, route_of};
-use crate::settings::Settings;
 use http_wire::{Request, Response};
 use lti_consumer::outcome_call;
 use lti_machine::Action;
 use lti_outside::{Limits, NoMemory};
-use lti_provider::{ProviderFault, launch_call};
-use oauth_request::{AuthFault, Signed, check};
+use lti_provider::{ProviderFault, Route, launch_call, route_of};
+use oauth_request::{AuthFault, Keys, Signed, check};
+use oauth_text::Scheme;
 use pox_outcomes::{EnvelopeFault, Outcome};
 use std::alloc::Global;
 
@@ -39,9 +37,8 @@ fn judge_message(
     request: &Request,
     signed: Signed,
 ) -> Result<Before, NoMemory>
-    requires path { is_for_launches (parts_of request.now) ≡ is_launches route }
-    requires says { signed.pairs ≡ parameters (parts_of request.now) }
-    ensures { IfOk result (IsJudged (parts_of request.now) signed) }
+    requires { signed.pairs ≡ parameters (parts_of request.now) }
+    ensures { IfOk result (IsJudged route (parts_of request.now) signed) }
 {
     match route {
         Route::Launches => match launch_call(alloc, &signed) {
@@ -73,17 +70,19 @@ fn judge_message(
 
 /// What comes of a request before the machine is asked: the answer to another path than those of launches and outcomes,
 /// another method than POST, another body than the path's that isn't compressed, to the first fault of its signature, or to
-/// a message that is no launch or no outcome request; else what it says and asks. `body_sum` is the SHA-1 of the body.
+/// a message that is no launch or no outcome request; else what it says and asks. `body_sum` is the SHA-1 of the body, `keys`
+/// are the consumer keys with their secrets, and `scheme` is the one by which this end is reached.
 pub fn judge(
     alloc: Global,
     request: &Request,
     body_sum: &[u8; 20],
-    settings: &Settings,
+    keys: &Keys,
+    scheme: Scheme,
     limits: &Limits,
 ) -> Result<Before, NoMemory>
     requires sum { body_sum.now ≡ sha1 request.now.body.list }
     requires sound { IsSound limits.now }
-    ensures { IfOk result (IsBefore (record { keys = settings.now.keys; scheme = settings.now.scheme; field = limits.now.field }) (parts_of request.now)) }
+    ensures { IfOk result (IsBefore (record { keys = keys.now; scheme = scheme; field = limits.now.field }) (parts_of request.now)) }
 {
     let route = match route_of(request) {
         Ok(route) => route,
@@ -92,14 +91,7 @@ pub fn judge(
             return Ok(Before::Refused(response));
         }
     };
-    match check(
-        alloc,
-        request,
-        body_sum,
-        &settings.keys,
-        settings.scheme,
-        limits,
-    ) {
+    match check(alloc, request, body_sum, keys, scheme, limits) {
         Ok(signed) => {
             let before = judge_message(alloc, route, request, signed)?;
             Ok(before)

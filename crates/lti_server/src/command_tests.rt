@@ -1,12 +1,15 @@
-//! The words of each command, right and wrong.
-use crate::command::{Command, Rounding, read_command};
+//! `run` with the commands on grades, and with words that are no command, over links in memory.
+ghost use Rattle.score_decimal.specs.Points.{IsAsked, IsNear};
+
+use super::*;
+use crate::answer_tests::{SETTINGS, link, source};
+use lti_outside::{FixedClock, Limits, ListRandom, MemoryLink};
+use score_decimal::{Scale, ceiling_points, floor_points, nearest_points};
 use std::alloc::Global;
 use std::process::Abort;
 use std::test::Fail;
 
-const URL: &str = "https://tool.example/lti/launch?course=1";
-
-fn words(alloc: Global, all: &[&str]) -> Result<Vec<String>, Fail> {
+pub(crate) fn words(alloc: Global, all: &[&str]) -> Result<Vec<String>, Fail> {
     let mut words = Vec::new(alloc);
     for word in all {
         words.push(String::from_str(alloc, *word)?)?;
@@ -14,220 +17,147 @@ fn words(alloc: Global, all: &[&str]) -> Result<Vec<String>, Fail> {
     Ok(words)
 }
 
-// A text of so many bytes.
-fn long(alloc: Global, len: usize) -> Result<String, Fail> {
-    let mut text = String::new(alloc);
-    for _ in 0..len {
-        text.push_str("a")?;
-    }
-    Ok(text)
+fn floor(n: u128, max: u32) -> u32
+    requires { IsAsked n max }
+    ensures { IsNear n max result }
+{
+    floor_points(n, max)
 }
 
-// Whether the words are no command.
-fn is_usage(alloc: Global, all: &[&str]) -> Result<bool, Fail> {
-    let words = words(alloc, all)?;
-    Ok(read_command(alloc, &words)?.is_none())
+fn nearest(n: u128, max: u32) -> u32
+    requires { IsAsked n max }
+    ensures { IsNear n max result }
+{
+    nearest_points(n, max)
 }
 
-#[test]
-fn answer_stands_alone(rt: HostRuntime) -> Result<(), Fail> {
-    let alloc = rt.alloc();
-    let words = words(alloc, &["answer"])?;
-    match read_command(alloc, &words)? {
-        Some(Command::Answer) => {}
-        _ => assert!(rt; false),
-    }
-    Ok(())
+fn ceiling(n: u128, max: u32) -> u32
+    requires { IsAsked n max }
+    ensures { IsNear n max result }
+{
+    ceiling_points(n, max)
 }
 
-// Whether the command is a check of these.
-fn is_check(found: &Option<Command<'_>>, key: &str, secret: &str, moment: u64) -> bool {
-    match found {
-        Some(Command::Check(check)) => {
-            check.key == key && check.secret == secret && check.moment == moment
-        }
-        _ => false,
-    }
+// The scales of the program.
+pub(crate) fn scales(alloc: Global) -> Result<Scales, Fail> {
+    Ok(Scales {
+        floor: Scale::new(Box::new(alloc, floor)?),
+        nearest: Scale::new(Box::new(alloc, nearest)?),
+        ceiling: Scale::new(Box::new(alloc, ceiling)?),
+    })
 }
 
-#[test]
-fn a_check_has_its_words(rt: HostRuntime) -> Result<(), Fail> {
-    let alloc = rt.alloc();
-    let words = words(alloc, &["check", URL, "12345", "", "1400000000"])?;
-    let found = read_command(alloc, &words)?;
-    assert!(rt; is_check(&found, "12345", "", 1_400_000_000));
-    Ok(())
-}
-
-#[test]
-fn an_issue_has_its_words(rt: HostRuntime) -> Result<(), Fail> {
-    let alloc = rt.alloc();
-    let words = words(alloc, &["issue", "12345", "id-1"])?;
-    match read_command(alloc, &words)? {
-        Some(Command::Issue(issue)) => {
-            assert_eq!(rt; issue.key, "12345");
-            assert_eq!(rt; issue.id, "id-1");
-        }
-        _ => assert!(rt; false),
-    }
-    Ok(())
-}
-
-// Whether the command is a launch of these: a key, a link, a user, an id and a service.
-fn is_launch(found: &Option<Command<'_>>, parts: &[&str; 5]) -> bool {
-    match found {
-        Some(Command::Launch(launch)) => {
-            launch.key == parts[0]
-                && launch.link == parts[1]
-                && launch.user == parts[2]
-                && launch.id == parts[3]
-                && launch.service == parts[4]
-        }
-        _ => false,
-    }
-}
-
-#[test]
-fn a_launch_has_its_words(rt: HostRuntime) -> Result<(), Fail> {
-    let alloc = rt.alloc();
-    let words = words(
+// The status of a run with these settings, and what it wrote.
+fn run_with(
+    rt: &impl Abort,
+    alloc: Global,
+    asked: &[&str],
+    settings: &str,
+    ends: &mut MemoryLink,
+) -> Result<u8, Fail> {
+    let limits = Limits::usual();
+    assert!(rt; limits.sound());
+    Ok(run(
         alloc,
-        &[
-            "launch",
-            URL,
-            "12345",
-            "link-1",
-            "user-2",
-            "id-3",
-            "https://lms.example/outcomes",
-        ],
-    )?;
-    let found = read_command(alloc, &words)?;
-    let parts = [
+        &words(alloc, asked)?,
+        &mut source(alloc, settings.as_bytes(), 100, &[])?,
+        ends,
+        &FixedClock::new(1_400_000_000),
+        &mut ListRandom::new([1, 2].to_vec(alloc)?),
+        &scales(alloc)?,
+        &limits,
+    ))
+}
+
+// Whether a run of these words, with these settings, has this status and writes this.
+fn is_run(
+    rt: &impl Abort,
+    alloc: Global,
+    asked: &[&str],
+    settings: &str,
+    status: u8,
+    want: &str,
+) -> Result<bool, Fail> {
+    let mut ends = link(alloc, b"", 1, &[], &[])?;
+    let came = run_with(rt, alloc, asked, settings, &mut ends)?;
+    Ok(came == status && ends.given() == want.as_bytes())
+}
+
+#[test]
+fn an_id_is_issued_under_a_known_key(rt: HostRuntime) -> Result<(), Fail> {
+    let alloc = rt.alloc();
+    assert!(rt; is_run(&rt, alloc, &["issue", "12345", "1"], SETTINGS, 0, "")?);
+    assert!(rt; is_run(&rt, alloc, &["issue", "other", "1"], SETTINGS, 17, "")?);
+    assert!(rt; is_run(&rt, alloc, &["issue", "12345", "1"], "{}", 3, "")?);
+    assert!(rt; is_run(&rt, alloc, &["issue", "12345", ""], SETTINGS, 2, "")?);
+    Ok(())
+}
+
+#[test]
+fn with_no_accepted_call_nothing_is_issued_placed_or_graded(rt: HostRuntime) -> Result<(), Fail> {
+    let alloc = rt.alloc();
+    let form = [
+        "launch",
+        "https://tool.example/lti/launch",
         "12345",
-        "link-1",
-        "user-2",
-        "id-3",
-        "https://lms.example/outcomes",
+        "1",
+        "2",
+        "8",
+        "",
     ];
-    assert!(rt; is_launch(&found, &parts));
-    Ok(())
-}
-
-// Whether the command is a passback of these: a key, a link and a user, and a score in units of 10^-30.
-fn is_passback(found: &Option<Command<'_>>, parts: &[&str; 3], units: u128) -> bool {
-    match found {
-        Some(Command::Passback(passback)) => {
-            let score = passback.score.parts();
-            passback.key == parts[0]
-                && passback.link == parts[1]
-                && passback.user == parts[2]
-                && score == units
-        }
-        _ => false,
-    }
-}
-
-#[test]
-fn a_passback_has_its_words(rt: HostRuntime) -> Result<(), Fail> {
-    let alloc = rt.alloc();
-    let words = words(
-        alloc,
-        &[
-            "passback",
-            "localhost:8080",
-            "12345",
-            "link-1",
-            "user-2",
-            "0.5",
-        ],
-    )?;
-    let found = read_command(alloc, &words)?;
-    let half = 500_000_000_000_000_000_000_000_000_000;
-    assert!(rt; is_passback(&found, &["12345", "link-1", "user-2"], half));
+    assert!(rt; is_run(&rt, alloc, &form, SETTINGS, 18, "")?);
+    let back = ["passback", "lms.example:80", "12345", "1", "2", "0.5"];
+    assert!(rt; is_run(&rt, alloc, &back, SETTINGS, 16, "")?);
+    let other = ["passback", "lms.example:80", "other", "1", "2", "0.5"];
+    assert!(rt; is_run(&rt, alloc, &other, SETTINGS, 17, "")?);
+    assert!(rt;
+        is_run(
+            &rt,
+            alloc,
+            &["grades", "nearest", "10"],
+            "",
+            0,
+            "total\t0\t0\n"
+        )?
+    );
     Ok(())
 }
 
 #[test]
-fn grades_have_their_words(rt: HostRuntime) -> Result<(), Fail> {
+fn a_check_is_done_without_settings(rt: HostRuntime) -> Result<(), Fail> {
     let alloc = rt.alloc();
-    let cases = [
-        ("floor", "1", Rounding::Floor, 1),
-        ("nearest", "0100", Rounding::Nearest, 100),
-        ("ceiling", "1000000", Rounding::Ceiling, 1_000_000),
+    let asked = [
+        "check",
+        "https://tool.example/lti/launch",
+        "12345",
+        "secret",
+        "1400000000",
     ];
-    for (scale, points, rounding, most) in &cases {
-        let words = words(alloc, &["grades", *scale, *points])?;
-        match read_command(alloc, &words)? {
-            Some(Command::Grades(grades)) => {
-                assert!(rt; grades.rounding == *rounding);
-                assert_eq!(rt; grades.most, *most);
-            }
-            _ => assert!(rt; false),
-        }
-    }
+    let form =
+        b"oauth_consumer_key=12345&oauth_signature_method=HMAC-SHA1&oauth_timestamp=1400000000&oauth_nonce=n1&oauth_signature=47WJQBrKiyEoII9HaNikgJMo7v8%3D\na=%FF\n";
+    let mut ends = link(alloc, form, 100, &[], &[])?;
+    assert_eq!(rt; run_with(&rt, alloc, &asked, "", &mut ends)?, 0);
+    assert_eq!(rt; ends.given(), b"accepted\nbad form\n".as_slice());
     Ok(())
 }
 
 #[test]
-fn wrong_words_are_no_command(rt: HostRuntime) -> Result<(), Fail> {
+fn other_words_are_usage(rt: HostRuntime) -> Result<(), Fail> {
     let alloc = rt.alloc();
-    let cases: [&[&str]; 24] = [
+    let cases: [&[&str]; 4] = [
         &[],
-        &["Answer"],
-        &["answer", "12345"],
-        &["check", URL, "12345", "secret"],
-        &["check", URL, "12345", "secret", "1400000000", "more"],
-        &["check", URL, "", "secret", "1400000000"],
-        &["check", URL, "12345", "secret", "1234567890123456"],
-        &[
-            "check",
-            "ftp://tool.example/",
-            "12345",
-            "secret",
-            "1400000000",
-        ],
-        &["issue", "12345"],
-        &["issue", "12345", "id", "more"],
-        &["issue", "", "id"],
-        &["issue", "12345", ""],
-        &["launch", URL, "12345", "link", "user", "id"],
-        &[
-            "launch",
-            "tool.example",
-            "12345",
-            "link",
-            "user",
-            "id",
-            "service",
-        ],
-        &["launch", URL, "", "link", "user", "id", "service"],
-        &["launch", URL, "12345", "", "user", "id", "service"],
-        &["launch", URL, "12345", "link", "", "id", "service"],
-        &["launch", URL, "12345", "link", "user", "", "service"],
-        &["passback", "localhost", "12345", "link", "user"],
-        &["passback", "localhost", "12345", "link", "user", "1.1"],
-        &["passback", "localhost", "12345", "link", "user", ""],
-        &["grades", "up", "100"],
-        &["grades", "floor"],
-        &["grade", "floor", "100"],
+        &["answer", "now"],
+        &["check", "ftp://tool.example/", "k", "s", "1"],
+        &["grades", "nearest", "0"],
     ];
-    for case in &cases {
-        assert!(rt; is_usage(alloc, *case)?);
+    for case in cases {
+        let mut ends = link(alloc, b"a=%FF\n", 3, &[], &[])?;
+        assert_eq!(rt;
+            run_with(&rt, alloc, case, SETTINGS, &mut ends)?,
+            2,
+            "at {case:?}"
+        );
+        assert_eq!(rt; ends.given(), b"".as_slice());
     }
-    for most in ["0", "1000001", "12345678", "", "1.5"] {
-        assert!(rt; is_usage(alloc, &["grades", "floor", most])?);
-    }
-    Ok(())
-}
-
-#[test]
-fn keys_and_names_have_a_longest(rt: HostRuntime) -> Result<(), Fail> {
-    let alloc = rt.alloc();
-    let (key, long_key) = (long(alloc, 255)?, long(alloc, 256)?);
-    let (id, long_id) = (long(alloc, 1_023)?, long(alloc, 1_024)?);
-    assert!(rt; !is_usage(alloc, &["issue", &key, &id])?);
-    assert!(rt; is_usage(alloc, &["issue", &long_key, &id])?);
-    assert!(rt; is_usage(alloc, &["issue", &key, &long_id])?);
     Ok(())
 }

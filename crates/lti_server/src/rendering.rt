@@ -3,7 +3,7 @@ ghost use Rattle.std.specs.Prelude.{◌≡◌, ◌≤◌, ◌+◌, ◌++◌, ◌
 ghost use Rattle.http_wire.specs.Message.{ResponseParts};
 ghost use Rattle.http_wire.specs.Response.{HasReason};
 ghost use Rattle.http_wire.specs.declared.message.Media.TheVariants.{Plain};
-ghost use Rattle.lti_consumer.specs.Outcomes as outcomes;
+ghost use Rattle.lti_asks.specs.Outcomes as outcomes;
 ghost use Rattle.lti_provider.specs.Answers.{plain_answer, IsRendered};
 ghost use Rattle.lti_server.specs.Room.{HasRoom};
 
@@ -18,7 +18,7 @@ use pox_outcomes::Outcome;
 pub const LONGEST_BODY: usize = 64;
 
 // Appends bytes for which there is room.
-fn put(body: &mut Bytes, piece: &[u8])
+fn append(body: &mut Bytes, piece: &[u8])
     requires { length piece.now ≤ body.old.room }
     ensures list { body.new.list ≡ body.old.list ++ piece.now }
     ensures room { body.old.room ≤ body.new.room + length piece.now }
@@ -29,14 +29,14 @@ fn put(body: &mut Bytes, piece: &[u8])
 }
 
 // Appends a text, a number and LF, for which there is room.
-fn put_number(body: &mut Bytes, text: &[u8], number: u64)
+fn append_number(body: &mut Bytes, text: &[u8], number: u64)
     requires { length text.now + 21 ≤ body.old.room }
     ensures { body.new.list ≡ body.old.list ++ text.now ++ decimal number ++ 10 ∷ [] }
 {
     let mut digits = Buffer::new();
-    put(body, text);
-    put(body, digits.format(number).as_bytes());
-    put(body, b"\n");
+    append(body, text);
+    append(body, digits.format(number).as_bytes());
+    append(body, b"\n");
 }
 
 // Puts the body of the answer in plain text to a reply into an empty one with room, and answers the status.
@@ -49,42 +49,42 @@ fn render_plain(body: &mut Bytes, reply: Reply) -> u16
 {
     match reply {
         Reply::Noted => {
-            put(body, b"selection requested\n");
+            append(body, b"selection requested\n");
             200
         }
         Reply::Launched => {
-            put(body, b"launched\n");
+            append(body, b"launched\n");
             200
         }
         Reply::Outside { now } => {
-            put_number(body, b"outside the window at ", now);
+            append_number(body, b"outside the window at ", now);
             401
         }
         Reply::Used => {
-            put(body, b"nonce already used\n");
+            append(body, b"nonce already used\n");
             401
         }
         Reply::WindowFull { live } => {
-            put_number(body, b"window full at ", u64::from(live));
+            append_number(body, b"window full at ", u64::from(live));
             503
         }
         Reply::JournalFull { free } => {
             let mut digits = Buffer::new();
-            put(body, b"journal full, ");
-            put(body, digits.format(free).as_bytes());
-            put(body, b" free\n");
+            append(body, b"journal full, ");
+            append(body, digits.format(free).as_bytes());
+            append(body, b" free\n");
             503
         }
         Reply::DiskFault { .. } => {
-            put(body, b"disk fault\n");
+            append(body, b"disk fault\n");
             503
         }
         Reply::RunFull => {
-            put(body, b"run full\n");
+            append(body, b"run full\n");
             503
         }
         Reply::NoMemory => {
-            put(body, b"want of memory\n");
+            append(body, b"want of memory\n");
             503
         }
         Reply::Graded

@@ -1,14 +1,13 @@
 // A whole connection.
-ghost use Rattle.std.specs.Prelude.{ℕ, List};
 ghost use Rattle.lti_outside.specs.Limits.{IsSound};
 ghost use Rattle.lti_server.specs.Transcript.{IsServed};
 
 use crate::asking::Session;
 use crate::asks::Ask;
 use crate::session_end::SessionEnd;
-use crate::settings::Settings;
 use lti_machine::Solo;
 use lti_outside::{Clock, Limits, Link};
+use lti_settings::Settings;
 use std::alloc::Global;
 
 /// Serves a connection: asks, has the machine answer, and tells, until the connection ends. The machine is asked with the

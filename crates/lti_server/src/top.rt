@@ -1,22 +1,20 @@
 // The top call.
-ghost use Rattle.std.specs.Prelude.{◌≡◌, ◌⊎◌, ℕ, List};
+ghost use Rattle.std.specs.Prelude.{◌≡◌, ◌⊎◌};
 ghost use Rattle.lti_outside.specs.Faults.{Rose};
 ghost use Rattle.lti_outside.specs.Limits.{IsSound};
-ghost use Rattle.lti_server.specs.Command.{CheckCommand, IssueCommand, LaunchCommand, PassbackCommand, GradesCommand, IsAnswer, IsCheck, IsIssue, IsLaunch, IsPassback, IsGrades, IsUsage, UsesNoSettings, SignsNothing, texts};
-ghost use Rattle.lti_server.specs.Ending.{EndsWith};
-ghost use Rattle.lti_server.specs.Answering.{Answers};
-ghost use Rattle.lti_server.specs.Done.{IsDone, DoesIssue, DoesLaunch, DoesPassback, DoesGrades};
+ghost use Rattle.lti_words.specs.Command.{CommandValue, IsCommand, IsUsage, UsesNoSettings, SignsNothing, texts};
+ghost use Rattle.lti_words.specs.Status.{number_of, IsNumber};
+ghost use Rattle.lti_words.specs.declared.status.Status.{Status};
+ghost use Rattle.lti_server.specs.Doing.{Does, Ran};
 
-use crate::answering::answer;
-use crate::check::check_lines;
-use crate::command::{Command, read_command};
-use crate::grading::grades_command;
-use crate::over_settings::{issue_command, launch_command, passback_command};
-use crate::scales::Scales;
+use crate::serving::answer;
+use lti_check::check;
+use lti_operator::{Scales, grades, issue, launch, passback};
 use lti_outside::{Clock, Limits, Link, Random, Source};
+use lti_words::{Command, Status, read_command};
 use std::alloc::Global;
 
-// Does what the words ask, and answers the status.
+// Does what the words ask, and answers how the run ends.
 fn perform<S: Source, I: Link, C: Clock, R: Random>(
     alloc: Global,
     words: &[String],
@@ -26,33 +24,28 @@ fn perform<S: Source, I: Link, C: Clock, R: Random>(
     random: &mut R,
     scales: &Scales,
     limits: &Limits,
-) -> u8
+) -> Status
     requires { IsSound limits.now }
-    ensures { IsDone (texts words.now) limits.now (C.tells clock.now)
-        (record { source = S.traffic settings.old; source' = S.traffic settings.new; link = I.traffic ends.old; link' = I.traffic ends.new; random = R.tells random.old; random' = R.tells random.new })
-        (random.new ≡ random.old) result }
+    ensures ran { Ran (texts words.now) limits.now (C.tells clock.now)
+        (record { before = record { source = S.traffic settings.old; link = I.traffic ends.old; random = R.tells random.old }; after = record { source = S.traffic settings.new; link = I.traffic ends.new; random = R.tells random.new } }) result }
+    ensures random { SignsNothing (texts words.now) → random.new ≡ random.old }
 {
     match read_command(alloc, words) {
-        Err(_) => 8,
-        Ok(None) => 2,
-        Ok(Some(Command::Check(check))) => match check_lines(alloc, &check, ends, limits) {
-            Ok(()) => 0,
-            Err(stop) => stop.status(),
-        },
+        Err(_) => Status::NoMemory,
+        Ok(None) => Status::Usage,
+        Ok(Some(Command::Check(asked))) => check(alloc, &asked, ends, limits),
         Ok(Some(Command::Answer)) => answer(alloc, settings, ends, clock, limits),
-        Ok(Some(Command::Issue(issue))) => issue_command(alloc, &issue, settings, clock, limits),
-        Ok(Some(Command::Launch(launch))) => {
-            launch_command(alloc, &launch, settings, ends, clock, random)
+        Ok(Some(Command::Issue(asked))) => issue(alloc, &asked, settings, clock, limits),
+        Ok(Some(Command::Launch(asked))) => launch(alloc, &asked, settings, ends, clock, random),
+        Ok(Some(Command::Passback(asked))) => {
+            passback(alloc, &asked, settings, ends, clock, random, limits)
         }
-        Ok(Some(Command::Passback(passback))) => {
-            passback_command(alloc, &passback, settings, ends, clock, random, limits)
-        }
-        Ok(Some(Command::Grades(grades))) => grades_command(alloc, &grades, ends, scales),
+        Ok(Some(Command::Grades(asked))) => grades(alloc, &asked, ends, scales),
     }
 }
 
-/// Does what the words ask, over the link, and answers the status. `check` and `grades` read no settings; `launch` and
-/// `passback` alone draw random words; `grades` alone asks a scale.
+/// Does what the words ask, over the link, and answers the number of `Status`, by which the run ends. `check` and `grades` read
+/// no settings; `launch` and `passback` alone draw random words; `grades` alone asks a scale.
 ///
 /// - 0: the work was done: `check` read its input to the end; the connection of `answer` has ended, or reached the limit of
 ///   its requests; the id is issued; the form or the report is written; the grade that was sent back is taken.
@@ -67,11 +60,12 @@ fn perform<S: Source, I: Link, C: Clock, R: Random>(
 /// - 15: what came back to `passback` says that the grade wasn't taken.
 /// - 16: no launch of the user from the link says where the grade of `passback` goes, or what it says is no URL or no text
 ///   of XML.
-/// - 17: the key isn't in the settings.
+/// - 17: the key isn't in the settings. Nothing of the link was read or written.
 /// - 18: the id of `launch` isn't issued under the key.
 ///
-/// Of `check`, the bytes written are at every status a front of the verdict lines of the lines read whole; with 14 all
-/// verdicts before the refused line were written. Each run begins with no accepted call.
+/// A run goes up one ladder: its words, its settings, its key, and then what is the command's own. Of `check`, the bytes
+/// written are at every status a front of the verdict lines of the lines read whole; with 14 all verdicts before the refused
+/// line were written. Each run begins with no accepted call.
 pub fn run<S: Source, I: Link, C: Clock, R: Random>(
     alloc: Global,
     words: &[String],
@@ -84,37 +78,25 @@ pub fn run<S: Source, I: Link, C: Clock, R: Random>(
 ) -> u8
     requires { IsSound limits.now }
 
-    // 2 exactly where the words are no command, unless memory ran out. Then the link and the settings are as before.
+    // 2 exactly where the words are no command, unless memory ran out. Then the link is as before.
     ensures usage { result ≡ 2 → IsUsage (texts words.now) }
     ensures no_command { IsUsage (texts words.now) → (result ≡ 2) ⊎ (result ≡ 8) }
     ensures untouched { IsUsage (texts words.now) → (I.traffic ends.new ≡ I.traffic ends.old) }
     ensures settings { UsesNoSettings (texts words.now) → (S.traffic settings.new ≡ S.traffic settings.old) }
     ensures random { SignsNothing (texts words.now) → random.new ≡ random.old }
 
+    // Each status has its word.
+    ensures known { IsNumber result }
+
     // A fault is told only where it was counted in this call.
     ensures read { result ≡ 4 → Rose (S.traffic settings.old).read_faults (S.traffic settings.new).read_faults
         ⊎ Rose (I.traffic ends.old).read_faults (I.traffic ends.new).read_faults }
     ensures write { result ≡ 5 → Rose (I.traffic ends.old).write_faults (I.traffic ends.new).write_faults }
 
-    // The bytes written are the verdict lines, in order, of the lines of the bytes read, by what the status says.
-    ensures check { (command : CheckCommand) → IsCheck (texts words.now) command
-        → EndsWith command limits.now (I.traffic ends.old) (I.traffic ends.new) result }
-
-    // The settings were read and the connection was served by them, or there were none.
-    ensures answer { IsAnswer (texts words.now) → Answers limits.now (C.tells clock.now)
-        (S.traffic settings.old) (S.traffic settings.new) (I.traffic ends.old) (I.traffic ends.new) result }
-
-    // The settings were read and the command was done by them, or there were none.
-    ensures issue { (command : IssueCommand) → IsIssue (texts words.now) command → DoesIssue limits.now (C.tells clock.now) command
-        (record { source = S.traffic settings.old; source' = S.traffic settings.new; link = I.traffic ends.old; link' = I.traffic ends.new; random = R.tells random.old; random' = R.tells random.new }) result }
-    ensures launch { (command : LaunchCommand) → IsLaunch (texts words.now) command → DoesLaunch (C.tells clock.now) command
-        (record { source = S.traffic settings.old; source' = S.traffic settings.new; link = I.traffic ends.old; link' = I.traffic ends.new; random = R.tells random.old; random' = R.tells random.new }) result }
-    ensures passback { (command : PassbackCommand) → IsPassback (texts words.now) command → DoesPassback limits.now (C.tells clock.now) command
-        (record { source = S.traffic settings.old; source' = S.traffic settings.new; link = I.traffic ends.old; link' = I.traffic ends.new; random = R.tells random.old; random' = R.tells random.new }) result }
-
-    // The report was written.
-    ensures grades { (command : GradesCommand) → IsGrades (texts words.now) command → DoesGrades command
-        (record { source = S.traffic settings.old; source' = S.traffic settings.new; link = I.traffic ends.old; link' = I.traffic ends.new; random = R.tells random.old; random' = R.tells random.new }) result }
+    // What the command did, rung by rung: which bytes were read and written, by what the status says.
+    ensures done { (command : CommandValue) → IsCommand (texts words.now) command → (status : Status) × (result ≡ number_of status)
+        × Does limits.now (C.tells clock.now) command
+        (record { before = record { source = S.traffic settings.old; link = I.traffic ends.old; random = R.tells random.old }; after = record { source = S.traffic settings.new; link = I.traffic ends.new; random = R.tells random.new } }) status }
 {
-    perform(alloc, words, settings, ends, clock, random, scales, limits)
+    perform(alloc, words, settings, ends, clock, random, scales, limits).number()
 }

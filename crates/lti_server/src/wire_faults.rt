@@ -1,5 +1,5 @@
 // The answers to faults of the wire.
-ghost use Rattle.std.specs.Prelude.{◌≡◌, ℕ, List, [], ◌∷◌, ◌++◌, None, Some, codes, MatchOption};
+ghost use Rattle.std.specs.Prelude.{◌≡◌, ℕ, List, [], None, Some, MatchOption};
 ghost use Rattle.lti_outside.specs.Traffic.{Moves, Fault};
 ghost use Rattle.http_wire.specs.Response.{HasReason};
 ghost use Rattle.http_wire.specs.declared.message.Media.TheVariants.{Plain};

@@ -5,7 +5,10 @@ use Rattle.std.proofs.lemmas.Bool.{cond_both, false_from_ne_true}
 use Rattle.lti_machine.specs.declared.entry.Entry.{Entry}
 use Rattle.lti_machine.specs.Nonces.{stamp_of, add_stamp, is_of_key, is_inside, is_live, live}
 use Rattle.lti_machine.proofs.LiveLemmas.{is_of_key_parts}
-use Rattle.nonce_window.specs.Laws.{ForgottenStaysOutside, ForgettingChangesNoVerdict, UnsignedIsHeld, AreAdmitted, LiveIsBounded, KeptIsBounded}
+use Rattle.nonce_window.specs.Laws.{ForgottenStaysOutside, ForgettingChangesNoVerdict, UnsignedIsHeld, AreAdmitted, LiveIsBounded, KeptIsBounded, HoldsAlike, KnowsUsed}
+use Rattle.lti_machine.specs.Rules.{high}
+use Rattle.lti_machine.proofs.UsedLemmas.{live_from_used, used_from_live, used_later}
+use Rattle.lti_machine.proofs.SummaryLemmas.{alike}
 use Rattle.nonce_window.proofs.LaterLemmas.{still, still-earlier, live-cons_same, live-cons_out, length-live_later}
 use Rattle.nonce_window.proofs.PushLemmas.{inside_is_still, stands-live, live-push, length-live_push}
 use Rattle.nonce_window.proofs.HeldLemmas.{same_verdict, new_parts}
@@ -73,3 +76,11 @@ live_is_bounded limit now high held (e ∷ es) admitted key =
 pub kept_is_bounded : KeptIsBounded
 kept_is_bounded window high loaded admitted held are_admitted key count counts =
     omega (arith, counts (loaded ++ admitted) held, live_is_bounded window.limit window.high high loaded admitted are_admitted key)
+
+-- ---- other lists that it holds
+
+pub holds_alike : HoldsAlike
+holds_alike window a b same h held = λ key. held key ∙ live_from_used a b window.high (used_later a b (high a) window.high h (alike a b same).useds) key
+
+pub knows_used : KnowsUsed
+knows_used window entries now held h = used_later window.known entries window.high now h (used_from_live window.known entries window.high held)

@@ -1,4 +1,3 @@
-pub mod OrderLemmas
 pub mod LaterLemmas
 pub mod PushLemmas
 pub mod HeldLemmas

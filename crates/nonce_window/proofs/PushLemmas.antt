@@ -3,12 +3,13 @@ use Rattle.std.proofs.Common.{◌≡◌, ◌≤◌, ◌+◌, ℕ, Bool, true, fa
 use Rattle.std.specs.Cmp.{first_so, second_so}
 use Rattle.std.specs.Cmp.Lexicographic.{bytes_decides}
 use Rattle.std.specs.List.{list_any}
-use Rattle.std.proofs.lemmas.Bool.{cond_both}
+use Rattle.std.proofs.lemmas.Bool.{cond-true, cond_both}
+use Rattle.std.proofs.lemmas.List.Folds.{list_any-append}
 use Rattle.std.proofs.lemmas.Bool.Decides.{nat_tests}
 use Rattle.lti_machine.specs.declared.entry.Entry.{Entry}
 use Rattle.lti_machine.specs.Nonces.{Stamp, stamp_of, same_stamp, add_stamp, insert_stamp, is_of_key, is_live, is_inside, live, stands}
-use Rattle.lti_machine.proofs.LiveLemmas.{same_from_test, list_any-live, stands_live, is_of_key_parts, length-insert_stamp}
-use Rattle.nonce_window.proofs.OrderLemmas.{add_stamp-swap, add_there}
+use Rattle.lti_machine.proofs.LiveLemmas.{same_from_test, list_any-add_stamp, list_any-live, stands_live, is_of_key_parts, length-insert_stamp}
+use Rattle.lti_machine.proofs.UsedLemmas.{same_stamps, rises_live, rises_added}
 use Rattle.nonce_window.proofs.LaterLemmas.{still}
 
 -- the stamp has a nonce, is its owner's under this key, and isn't forgotten
@@ -19,18 +20,27 @@ lives key now owner stamp = not (length stamp.nonce == 0) && bytes_eq owner key 
 abbrev pub grown : List ℕ → ℕ → List ℕ → Stamp → List Stamp → List Stamp
 grown key now owner stamp ts = if lives key now owner stamp then add_stamp stamp ts else ts
 
-swapped : {A : Type 0} (b c : Bool) (f g : A → A) → ((z : A) → f (g z) ≡ g (f z)) → (z : A) → cond b (f (cond c (g z) z)) (cond c (g z) z) ≡ cond c (g (cond b (f z) z)) (cond b (f z) z)
-swapped true true f g commute z = commute z
-swapped true false f g commute z = refl
-swapped false true f g commute z = refl
-swapped false false f g commute z = refl
+add_there : (s : Stamp) (ts : List Stamp) → list_any (same_stamp s) ts ≡ true → add_stamp s ts ≡ ts
+add_there s ts h = cond-true (list_any (same_stamp s) ts) ts (insert_stamp s ts) h
 
 pub live-push : (es : List Entry) (e : Entry) (key : List ℕ) (now : ℕ) → live (es ++ e ∷ []) key now ≡ grown key now e.key (stamp_of e) (live es key now)
-unfolding live
-live-push [] e key now = refl
-live-push (x ∷ es) e key now =
-    ap (grown key now x.key (stamp_of x)) (live-push es e key now)
-    ∙ swapped (is_live key now x) (is_live key now e) (add_stamp (stamp_of x)) (add_stamp (stamp_of e)) (add_stamp-swap (stamp_of x) (stamp_of e)) (live es key now)
+live-push es e key now =
+    cond_both (is_live key now e) (add_stamp (stamp_of e) (live es key now)) (live es key now) (λ x. live (es ++ e ∷ []) key now ≡ x)
+    (λ lives. same_stamps (live (es ++ e ∷ []) key now) (add_stamp (stamp_of e) (live es key now)) (rises_live (es ++ e ∷ []) key now) (rises_added (stamp_of e) (live es key now) (rises_live es key now))
+    (λ q. has q ∙ ap (λ b. stands_live es key now q || (b && same_stamp q (stamp_of e) || false)) lives ∙ turned (stands_live es key now q) (same_stamp q (stamp_of e))
+    ∙ ap (λ b. same_stamp q (stamp_of e) || b) (sym (list_any-live es key now q))
+    ∙ sym (list_any-add_stamp q (stamp_of e) (live es key now))))
+    (λ dead. same_stamps (live (es ++ e ∷ []) key now) (live es key now) (rises_live (es ++ e ∷ []) key now) (rises_live es key now)
+    (λ q. has q ∙ ap (λ b. stands_live es key now q || (b && same_stamp q (stamp_of e) || false)) dead ∙ turned (stands_live es key now q) false ∙ sym (list_any-live es key now q)))
+  where
+    has : (q : Stamp) → list_any (same_stamp q) (live (es ++ e ∷ []) key now) ≡ (stands_live es key now q || (is_live key now e && same_stamp q (stamp_of e) || false))
+    has q = list_any-live (es ++ e ∷ []) key now q ∙ list_any-append (λ x. is_live key now x && same_stamp q (stamp_of x)) es (e ∷ [])
+
+    turned : (a b : Bool) → (a || (b || false)) ≡ (b || a)
+    turned true true = refl
+    turned true false = refl
+    turned false true = refl
+    turned false false = refl
 
 -- ---- a stamp that stands in the list
 

@@ -4,6 +4,9 @@ use Rattle.std.specs.List.{list_any}
 use Rattle.lti_machine.specs.declared.entry.Entry.{Entry}
 use Rattle.lti_machine.specs.declared.verdict.Verdict.TheVariants.{New}
 use Rattle.lti_machine.specs.Nonces.{Stamp, stamp_of, same_stamp, is_signed, is_inside, is_live, live, stands, verdict}
+use Rattle.lti_machine.specs.Rules.{high}
+use Rattle.lti_machine.specs.Used.{used}
+use Rattle.lti_machine.specs.Summary.{summary}
 use Rattle.nonce_window.specs.Window.{WindowValue, Holds}
 use Rattle.nonce_window.specs.Words.{Counts}
 
@@ -48,3 +51,11 @@ KeptIsBounded =
     (window : WindowValue) (high : ℕ) (loaded admitted : List Entry) → Holds window (loaded ++ admitted)
     → AreAdmitted window.limit window.high high loaded admitted → (key : List ℕ) (count : ℕ) → Counts window key count
     → count ≤ max window.limit (length (live loaded key window.high))
+
+-- a window at the greatest moment or later holds each list of one summary, or none
+abbrev pub HoldsAlike : Type 0
+HoldsAlike = (window : WindowValue) (a b : List Entry) → summary a ≡ summary b → high a ≤ window.high → Holds window a → Holds window b
+
+-- a window knows the nonces of all keys that aren't forgotten, now and later, of each list that it holds
+abbrev pub KnowsUsed : Type 0
+KnowsUsed = (window : WindowValue) (entries : List Entry) (now : ℕ) → Holds window entries → window.high ≤ now → used window.known now ≡ used entries now

@@ -1,5 +1,5 @@
 // What holds of all lists of entries.
-ghost use Rattle.nonce_window.specs.Laws.{ForgottenStaysOutside, ForgettingChangesNoVerdict, UnsignedIsHeld, LiveIsBounded, KeptIsBounded};
+ghost use Rattle.nonce_window.specs.Laws.{ForgottenStaysOutside, ForgettingChangesNoVerdict, UnsignedIsHeld, LiveIsBounded, KeptIsBounded, HoldsAlike, KnowsUsed};
 
 /// A nonce that stands in the list and isn't live at a moment has a timestamp that is outside then and at every later moment.
 pub fn forgotten_stays_outside()
@@ -25,4 +25,14 @@ pub fn live_is_bounded()
 /// So `NonceWindow::kept` never passes the greater of the limit and what the loaded entries alone have live.
 pub fn kept_is_bounded()
     ensures { KeptIsBounded }
+{}
+
+/// A window at the greatest moment or later holds each list of one summary, or none.
+pub fn holds_alike()
+    ensures { HoldsAlike }
+{}
+
+/// A window knows the nonces of all keys that aren't forgotten, now and later, of each list that it holds.
+pub fn knows_used()
+    ensures { KnowsUsed }
 {}

@@ -13,7 +13,7 @@ mod tests;
 mod window;
 
 pub use laws::{
-    forgetting_changes_no_verdict, forgotten_stays_outside, kept_is_bounded, live_is_bounded,
-    unsigned_is_held,
+    forgetting_changes_no_verdict, forgotten_stays_outside, holds_alike, kept_is_bounded,
+    knows_used, live_is_bounded, unsigned_is_held,
 };
 pub use window::NonceWindow;

@@ -12,10 +12,11 @@ use Rattle.lti_outside.proofs.BoolLemmas.{and_split}
 use Rattle.oauth_text.specs.Escape.{escape}
 use Rattle.oauth_text.specs.Form.{AreText}
 use Rattle.oauth_header.specs.Item.{is_name_byte, is_value_byte, are_name_bytes, name_len, raw_name, assigned, is_quoted, unquoted, raw_value, pair_of, is_realm, IsEncoded, IsItem}
-use Rattle.oauth_header.specs.Items.{Placed, is_blank, trim_front, trim_end, items_from, pieces}
+use Rattle.oauth_text.specs.Blanks.{is_blank, trim_front, trim_end}
+use Rattle.oauth_header.specs.Items.{Placed, items_from, pieces}
 use Rattle.oauth_header.specs.Header.{is_oauth, items_of, AreItems, IsHeader, header_pairs}
 use Rattle.oauth_header.specs.Written.{item_text, header_text, can_stand, can_be_written}
-use Rattle.oauth_header.proofs.TrimLemmas.{trim_front_done, trim_end_done}
+use Rattle.oauth_text.proofs.TrimLemmas.{trim_front_done, trim_end_done}
 use Rattle.oauth_header.proofs.EscapedLemmas.{percent_decode-escape, name_bytes-escape, are_escapes-escape, some-escape, longer}
 use Rattle.oauth_header.proofs.CutLemmas.{IsPlain, next, spaced, item_text-is, pieces_written, is_some, trim, items_bytes}
 

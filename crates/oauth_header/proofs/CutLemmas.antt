@@ -6,7 +6,8 @@ use Rattle.lti_outside.specs.declared.pairs.Pair.{Pair}
 use Rattle.oauth_text.specs.Escape.{escape}
 use Rattle.lti_outside.proofs.BoolLemmas.{and_split}
 use Rattle.oauth_header.specs.Item.{is_name_byte}
-use Rattle.oauth_header.specs.Items.{Placed, lengthen, pieces, placed, trim_front, trim_end, trimmed, is_nonempty, items_in}
+use Rattle.oauth_text.specs.Blanks.{trim_front, trim_end}
+use Rattle.oauth_header.specs.Items.{Placed, lengthen, pieces, placed, trimmed, is_nonempty, items_in}
 use Rattle.oauth_header.specs.Written.{item_text}
 
 -- neither a comma nor a quotation mark is a byte of a name

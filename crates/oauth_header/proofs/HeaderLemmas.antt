@@ -1,5 +1,5 @@
 -- Items one after another.
-use Rattle.std.proofs.Common.{◌≡◌, ℕ, not, false, ◌==◌, length, List, [], ◌∷◌, ◌++◌, map, filter, Result, Ok, Err, IfErr, IsErrAnd, refl, sym, ap, ◌∙◌, subst, append_assoc}
+use Rattle.std.proofs.Common.{◌≡◌, ℕ, not, false, ◌==◌, length, List, [], ◌∷◌, ◌++◌, map, filter, refl, sym, ap, ◌∙◌, append_assoc}
 use Rattle.std.proofs.lemmas.List.{map-append}
 use Rattle.std.proofs.lemmas.List.Elements.{filter-append}
 use Rattle.oauth_header.specs.Item.{IsItem, pair_of, is_realm}
@@ -45,8 +45,3 @@ IsFaultOf_at (BadAuthorization found) piece at bytes place same some bad =
       place = bad.0 ∙ place;
     }
 IsFaultOf_at NoMemory piece at bytes place same some bad = tt
-
--- what holds of a fault holds where `?` hands it on
-pub IfErr_carried : {T : Type 0} (P : HeaderFault → Type 0) (r : Result T HeaderFault) (fault : HeaderFault) → IsErrAnd r (λ e. e ≡ fault) → P fault → IfErr r P
-IfErr_carried P (Ok t) fault is holds = tt
-IfErr_carried P (Err e) fault is holds = subst P (sym is) holds

@@ -1,5 +1,5 @@
 pub mod PieceLemmas
-pub mod TrimLemmas
+pub mod ResultLemmas
 pub mod HeaderLemmas
 pub mod WrittenLemmas
 pub mod EscapedLemmas

@@ -5,7 +5,8 @@ use Rattle.std.specs.Char.{to_ascii_lowercase}
 use Rattle.std.specs.Str.{bytes_eq}
 use Rattle.lti_outside.specs.declared.pairs.Pair.{Pair}
 use Rattle.oauth_header.specs.Item.{IsItem, pair_of, is_realm}
-use Rattle.oauth_header.specs.Items.{Placed, items_from, is_blank}
+use Rattle.oauth_text.specs.Blanks.{is_blank}
+use Rattle.oauth_header.specs.Items.{Placed, items_from}
 
 -- the scheme is OAuth: these five letters in any case, and then nothing, a space or a tab
 abbrev pub is_oauth : List ℕ → Bool

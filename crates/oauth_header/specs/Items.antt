@@ -1,5 +1,6 @@
 -- The items of an Authorization header of the scheme OAuth, with their places.
-use Rattle.std.specs.Prelude.{ℕ, ◌+◌, ◌-◌, Bool, false, not, ◌&&◌, ◌||◌, ◌==◌, List, [], ◌∷◌, length, filter, map, reverse, if◌then◌else◌}
+use Rattle.std.specs.Prelude.{ℕ, ◌+◌, ◌-◌, Bool, false, not, ◌&&◌, ◌==◌, List, [], ◌∷◌, length, filter, map, if◌then◌else◌}
+use Rattle.oauth_text.specs.Blanks.{trim_front, trim_end}
 
 -- some bytes of the header's value, and the place in it where they begin
 pub record Placed : Type 0 where
@@ -24,19 +25,6 @@ pieces odd (b ∷ text) =
 abbrev pub placed : ℕ → List (List ℕ) → List Placed
 placed at [] = []
 placed at (piece ∷ pieces) = record { at = at; bytes = piece } ∷ placed (at + length piece + 1) pieces
-
--- a space or a tab
-abbrev pub is_blank : ℕ → Bool
-is_blank b = b == 32 || b == 9
-
--- without the spaces and tabs in front
-abbrev pub trim_front : List ℕ → List ℕ
-trim_front [] = []
-trim_front (b ∷ text) = if is_blank b then trim_front text else b ∷ text
-
--- without the spaces and tabs at the end
-abbrev pub trim_end : List ℕ → List ℕ
-trim_end text = reverse (trim_front (reverse text))
 
 -- without the spaces and tabs at both ends, where it then begins
 abbrev pub trimmed : Placed → Placed

@@ -10,6 +10,7 @@ ghost use Rattle.oauth_header.specs.Faults.{IsFaultAt};
 
 use crate::HeaderFault;
 use lti_outside::{Pair, Text};
+use oauth_text::first_place;
 use percent_encoding::{DecodeError, percent_decode};
 use std::alloc::Global;
 use std::borrow::CowStr;
@@ -74,12 +75,6 @@ fn are_escapes(text: &[u8]) -> bool
     true
 }
 
-fn first_equals_sign(text: &[u8]) -> Option<usize>
-    ensures { result ≡ position (λ b. b == 61) text.now }
-{
-    text.iter().position(|b| *b == b'=')
-}
-
 // What stands between quotation marks, where the text does.
 fn unquoted(text: &[u8]) -> Option<&[u8]>
     ensures { MatchOption result (spec.is_quoted text.now ≡ false)
@@ -97,7 +92,7 @@ fn split_item(item: &[u8]) -> Option<Parts<'_>>
         (λ parts. (spec.is_quoted (spec.assigned item.now) ≡ true)
         × (parts.name.now ≡ spec.raw_name item.now) × (parts.value.now ≡ spec.raw_value item.now)) }
 {
-    let len = first_equals_sign(item)?;
+    let len = first_place(b'=', item)?;
     let value = unquoted(&item[len + 1..])?;
     Some(Parts {
         name: &item[..len],

@@ -8,8 +8,9 @@ ghost use Rattle.oauth_header.specs.Faults.{IsFaultOf};
 
 use crate::HeaderFault;
 use crate::items::read_item;
-use crate::pieces::{first_piece, is_blank, trim_end, trim_front};
+use crate::pieces::first_piece;
 use lti_outside::Pairs;
+use oauth_text::{is_blank, trim_end, trim_front};
 use std::alloc::Global;
 
 // Whether the scheme is OAuth.

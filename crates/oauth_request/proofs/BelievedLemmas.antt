@@ -17,7 +17,8 @@ use Rattle.oauth_header.specs.Header.{IsHeader, header_pairs}
 use Rattle.http_wire.specs.Message.{RequestParts}
 use Rattle.oauth_request.specs.Protocol.{signature_name, body_hash_name, values, is_bad_timestamp, is_empty, is_long}
 use Rattle.oauth_request.specs.Secret.{secret_in}
-use Rattle.oauth_request.specs.Conditions.{first_fault, duplicate_conditions, missing_conditions, text_conditions}
+use Rattle.http_wire.specs.Conditions.{first_fault}
+use Rattle.oauth_request.specs.Conditions.{duplicate_conditions, missing_conditions, text_conditions}
 use Rattle.oauth_request.specs.Checked.{Terms, form_type, is_form, all_pairs, parameters, conditions_of, IsReadable, IsSignedBy}
 use Rattle.oauth_request.specs.Signing.{CanSign, HoldsNone, protocol_pairs, callback_pair, pair, form_pairs, body_pairs, IsSignatureOf, IsSignedForm, IsSignedBody, AreTermsOf, PostsForm, IsBelieved, SignedIsBelieved}
 use Rattle.oauth_request.specs.declared.fields.Field.TheVariants as field
@@ -48,17 +49,17 @@ gaps_none false body pairs key nonce text moment are = rw (are.key_is, are.metho
 not_empty : (n : ℕ) → 1 ≤ n → (n == 0) ≡ false
 not_empty n some = grind (arith, nat_tests)
 
-not_long : (most n : ℕ) → n ≤ most → nat_lt most n ≡ false
-not_long most n few = grind (arith, nat_tests)
+not_long : (field_limit n : ℕ) → n ≤ field_limit → nat_lt field_limit n ≡ false
+not_long field_limit n few = grind (arith, nat_tests)
 
-texts_none : (most : ℕ) (pairs : List Pair) (key nonce text : List ℕ) (moment : ℕ) (hash : List (List ℕ)) → AreSigned pairs key nonce text moment hash
-    → CanSign key moment nonce → length key ≤ most → length nonce ≤ most → first_fault (text_conditions most pairs) ≡ None
+texts_none : (field_limit : ℕ) (pairs : List Pair) (key nonce text : List ℕ) (moment : ℕ) (hash : List (List ℕ)) → AreSigned pairs key nonce text moment hash
+    → CanSign key moment nonce → length key ≤ field_limit → length nonce ≤ field_limit → first_fault (text_conditions field_limit pairs) ≡ None
 unfolding text_conditions
-texts_none most pairs key nonce text moment hash are can short few =
+texts_none field_limit pairs key nonce text moment hash are can short few =
     let number : is_bad_timestamp (decimal moment) ≡ false = (timestamp_fine moment can.moment_some can.moment_small).form in
     let some : is_empty nonce ≡ false = not_empty (length nonce) can.nonce_some in
-    let key_fits : is_long most key ≡ false = not_long most (length key) short in
-    let nonce_fits : is_long most nonce ≡ false = not_long most (length nonce) few in
+    let key_fits : is_long field_limit key ≡ false = not_long field_limit (length key) short in
+    let nonce_fits : is_long field_limit nonce ≡ false = not_long field_limit (length nonce) few in
     rw (are.method, are.version, are.token, are.timestamp, are.nonce_is, are.key_is, number, some, key_fits, nonce_fits) refl
 
 same_hash : (form : Bool) (body : List ℕ) (pairs : List Pair) → values body_hash_name pairs ≡ hash_for form body
@@ -66,12 +67,12 @@ same_hash : (form : Bool) (body : List ℕ) (pairs : List Pair) → values body_
 same_hash true body pairs stands = refl
 same_hash false body pairs stands = rw (stands, (bytes_eq-Decides (body_hash body) (body_hash body)).1 refl) refl
 
-fine : (keys : List Pair) (most : ℕ) (form : Bool) (body : List ℕ) (pairs : List Pair) (key nonce text secret : List ℕ) (moment : ℕ)
-    → AreSigned pairs key nonce text moment (hash_for form body) → CanSign key moment nonce → length key ≤ most → length nonce ≤ most → secret_in keys key ≡ Some secret
-    → first_fault (conditions_of keys most form body pairs) ≡ None
-fine keys most form body pairs key nonce text secret moment are can short few known =
-    is_left keys most form body pairs (doubles_none pairs key nonce text moment (hash_for form body) are (few_hashes form body)) (gaps_none form body pairs key nonce text moment are)
-    (texts_none most pairs key nonce text moment (hash_for form body) are can short few)
+fine : (keys : List Pair) (field_limit : ℕ) (form : Bool) (body : List ℕ) (pairs : List Pair) (key nonce text secret : List ℕ) (moment : ℕ)
+    → AreSigned pairs key nonce text moment (hash_for form body) → CanSign key moment nonce → length key ≤ field_limit → length nonce ≤ field_limit → secret_in keys key ≡ Some secret
+    → first_fault (conditions_of keys field_limit form body pairs) ≡ None
+fine keys field_limit form body pairs key nonce text secret moment are can short few known =
+    is_left keys field_limit form body pairs (doubles_none pairs key nonce text moment (hash_for form body) are (few_hashes form body)) (gaps_none form body pairs key nonce text moment are)
+    (texts_none field_limit pairs key nonce text moment (hash_for form body) are can short few)
     ∙ is_fine keys form body (sha1 body) pairs key secret are.key_is known (λ _. refl) (same_hash form body pairs are.hash_is)
 
 believed : (terms : Terms) (q : RequestParts) (key nonce text secret : List ℕ) (moment : ℕ) → IsReadable q
@@ -121,20 +122,24 @@ signed_as terms url pairs signed secret text scheme same is =
     subst (λ (s : Scheme). IsSignature (codes "POST") (base_uri_of s url.name url.port url.path) signed secret [] text) (sym scheme)
     (subst (λ (ps : List Pair). IsSignature (codes "POST") (base_uri_of url.scheme url.name url.port url.path) ps secret [] text) same is)
 
--- a form that is posted
-abbrev post_of : UrlParts → List ℕ → Bool → Bool → RequestParts
-post_of url body encoded close = record {
+-- what is posted to the URL
+abbrev request_with : UrlParts → List ℕ → List ℕ → List ℕ → Bool → Bool → RequestParts
+request_with url media authorization body encoded close = record {
   method = codes "POST";
   path = url.path;
   query = url.query;
   host_name = url.name;
   host_port = url.port;
-  media = form_type;
+  media = media;
   encoded = encoded;
-  authorization = [];
+  authorization = authorization;
   body = body;
   close = close;
 }
+
+-- a form that is posted
+abbrev post_of : UrlParts → List ℕ → Bool → Bool → RequestParts
+post_of url body encoded close = request_with url form_type [] body encoded close
 
 kept_by : (front tail rest : List Pair) → HoldsNone front → filter (λ (p : Pair). not (bytes_eq p.name signature_name)) tail ≡ rest
     → filter (λ (p : Pair). not (bytes_eq p.name signature_name)) (front ++ tail) ≡ front ++ rest
@@ -197,32 +202,10 @@ body_believed : (terms : Terms) (url : UrlParts) (media body key secret nonce te
     → CanSign key moment nonce → bytes_eq media form_type ≡ false → AreTermsOf terms url key secret nonce
     → IsSignatureOf url (body_pairs key moment nonce body) secret text → IsHeader header
     → header_pairs header ≡ body_pairs key moment nonce body ++ pair signature_name text ∷ []
-    → q ≡ record {
-      method = codes "POST";
-      path = url.path;
-      query = url.query;
-      host_name = url.name;
-      host_port = url.port;
-      media = media;
-      encoded = false;
-      authorization = header;
-      body = body;
-      close = true;
-    }
+    → q ≡ request_with url media header body false true
     → IsBelieved terms key moment nonce q
 body_believed terms url media body key secret nonce text header moment q can other are signature readable header_is q_is =
-    let sent : RequestParts = record {
-      method = codes "POST";
-      path = url.path;
-      query = url.query;
-      host_name = url.name;
-      host_port = url.port;
-      media = media;
-      encoded = false;
-      authorization = header;
-      body = body;
-      close = true;
-    } in
+    let sent : RequestParts = request_with url media header body false true in
     let front : List Pair = pairs_of url.query in
     let protocol : List Pair = protocol_pairs key moment nonce in
     let hash_pair : Pair = pair body_hash_name (body_hash body) in

@@ -13,7 +13,8 @@ use Rattle.lti_outside.proofs.BoolLemmas.{and_split}
 use Rattle.http_wire.specs.Message.{RequestParts}
 use Rattle.oauth_request.specs.Protocol.{IsTimestamp}
 use Rattle.oauth_request.specs.Secret.{secret_in}
-use Rattle.oauth_request.specs.Conditions.{Condition, first_fault, IsFirstOf, duplicate_conditions, missing_conditions, text_conditions, credential_conditions}
+use Rattle.http_wire.specs.Conditions.{Condition, first_fault}
+use Rattle.oauth_request.specs.Conditions.{IsFirstOf, duplicate_conditions, missing_conditions, text_conditions, credential_conditions}
 use Rattle.oauth_request.specs.Checked.{Terms, IsReadable, IsSigned, IsSignedBy, IsAuthFault, conditions_of, conditions, is_form, all_pairs}
 use Rattle.oauth_request.specs.Given.{AreCredentials}
 use Rattle.oauth_request.specs.Reading.{IsReadingFault}
@@ -35,7 +36,7 @@ is_of_parameters SignatureMismatch = false
 is_of_parameters NoMemory = false
 is_of_parameters fault = true
 
-abbrev tests : Condition → Bool
+abbrev tests : Condition AuthFault → Bool
 tests c = is_of_parameters c.fault
 
 kind_by : (holds : Bool) (here : AuthFault) (later : Option AuthFault) (fault : AuthFault) → is_of_parameters here ≡ true
@@ -43,7 +44,7 @@ kind_by : (holds : Bool) (here : AuthFault) (later : Option AuthFault) (fault : 
 kind_by true here later fault so more is = let same : here ≡ fault = cc in subst (λ (f : AuthFault). is_of_parameters f ≡ true) same so
 kind_by false here later fault so more is = more is
 
-first_kind : (cs : List Condition) (fault : AuthFault) → list_all tests cs ≡ true → first_fault cs ≡ Some fault → is_of_parameters fault ≡ true
+first_kind : (cs : List (Condition AuthFault)) (fault : AuthFault) → list_all tests cs ≡ true → first_fault cs ≡ Some fault → is_of_parameters fault ≡ true
 first_kind [] fault all is = absurd (cc)
 first_kind (c ∷ cs) fault all is =
     let both = and_split (tests c) (list_all tests cs) all in
@@ -58,24 +59,24 @@ unfolding missing_conditions
 all-gaps true pairs = refl
 all-gaps false pairs = refl
 
-all-texts : (most : ℕ) (pairs : List Pair) → list_all tests (text_conditions most pairs) ≡ true
+all-texts : (field_limit : ℕ) (pairs : List Pair) → list_all tests (text_conditions field_limit pairs) ≡ true
 unfolding text_conditions
-all-texts most pairs = refl
+all-texts field_limit pairs = refl
 
 all-trust : (keys : List Pair) (form : Bool) (body : List ℕ) (pairs : List Pair) → list_all tests (credential_conditions keys form body pairs) ≡ true
 unfolding credential_conditions
 all-trust keys form body pairs = refl
 
-both_all : (cs ds : List Condition) → list_all tests cs ≡ true → list_all tests ds ≡ true → list_all tests (cs ++ ds) ≡ true
+both_all : (cs ds : List (Condition AuthFault)) → list_all tests cs ≡ true → list_all tests ds ≡ true → list_all tests (cs ++ ds) ≡ true
 both_all cs ds one other = list_all-append tests cs ds ∙ (λ i. one i && other i)
 
-all-conditions : (keys : List Pair) (most : ℕ) (form : Bool) (body : List ℕ) (pairs : List Pair) → list_all tests (conditions_of keys most form body pairs) ≡ true
+all-conditions : (keys : List Pair) (field_limit : ℕ) (form : Bool) (body : List ℕ) (pairs : List Pair) → list_all tests (conditions_of keys field_limit form body pairs) ≡ true
 unfolding conditions_of
-all-conditions keys most form body pairs =
+all-conditions keys field_limit form body pairs =
     let d = duplicate_conditions pairs in
     let g = missing_conditions form pairs in
-    let t = text_conditions most pairs in
-    both_all (d ++ g ++ t) (credential_conditions keys form body pairs) (both_all (d ++ g) t (both_all d g (all-doubles pairs) (all-gaps form pairs)) (all-texts most pairs)) (all-trust keys form body pairs)
+    let t = text_conditions field_limit pairs in
+    both_all (d ++ g ++ t) (credential_conditions keys form body pairs) (both_all (d ++ g) t (both_all d g (all-doubles pairs) (all-gaps form pairs)) (all-texts field_limit pairs)) (all-trust keys form body pairs)
 
 module _ (terms : Terms) (q : RequestParts) (readable : IsReadable q) where
   by_kind : (fault : AuthFault) → is_of_parameters fault ≡ true → first_fault (conditions terms q) ≡ Some fault → IsAuthFault terms q fault
@@ -96,9 +97,9 @@ some_only : (x y : List ℕ) → Some x ≡ Some y → x ≡ y
 some_only x y is = cc
 
 -- another text than the signature was sent
-pub not_signed : (terms : Terms) (q : RequestParts) (most : ℕ) (given : Credentials) → AreCredentials terms.keys most (all_pairs q) given
+pub not_signed : (terms : Terms) (q : RequestParts) (field_limit : ℕ) (given : Credentials) → AreCredentials terms.keys field_limit (all_pairs q) given
     → (¬ IsSignedBy terms q given.secret.now given.signature) → ¬ IsSigned terms q
-not_signed terms q most given are wrong signed =
+not_signed terms q field_limit given are wrong signed =
     let key = only signed.key given.key (sym signed.key_is ∙ are.key) in
     let text = only signed.text given.signature (sym signed.text_is ∙ are.signature) in
     let secret = some_only signed.secret given.secret.now (sym signed.secret_is ∙ ap (secret_in terms.keys) key ∙ are.secret) in

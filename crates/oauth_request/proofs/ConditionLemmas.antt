@@ -1,75 +1,57 @@
 -- The first condition that holds, where conditions are joined.
-use Rattle.std.proofs.Common.{◌≡◌, ℕ, Bool, true, false, cond, List, [], ◌∷◌, ◌++◌, refl, sym, ap, ◌∙◌, Option, Some, None, not, ◌&&◌, bytes_eq}
+use Rattle.std.proofs.Common.{◌≡◌, ℕ, Bool, true, false, List, [], ◌∷◌, ◌++◌, refl, sym, ap, ◌∙◌, Some, None, not, ◌&&◌, bytes_eq}
 use Rattle.std.specs.List.{list_any}
 use Rattle.lti_outside.specs.declared.pairs.Pair.{Pair}
 use Rattle.base64.specs.Engines.{standard}
 use Rattle.base64.specs.GeneralPurpose.{encode_of}
 use Rattle.sha1.specs.Sha1.{sha1}
+use Rattle.http_wire.specs.Conditions.{Condition, first_fault}
+use Rattle.http_wire.proofs.ConditionLemmas.{first_later, first_here}
 use Rattle.oauth_request.specs.Secret.{secret_in}
 use Rattle.oauth_request.specs.Protocol.{values, key_name, body_hash_name}
-use Rattle.oauth_request.specs.Conditions.{Condition, first_fault, IsFirstOf, duplicate_conditions, missing_conditions, text_conditions, credential_conditions}
+use Rattle.oauth_request.specs.Conditions.{IsFirstOf, duplicate_conditions, missing_conditions, text_conditions, credential_conditions}
 use Rattle.oauth_request.specs.Checked.{conditions_of}
 use Rattle.oauth_request.specs.declared.faults.AuthFault.{AuthFault}
 use Rattle.oauth_request.specs.declared.faults.AuthFault.TheVariants.{NoMemory, UnknownKey, BodyHashMismatch}
 
-later_by : (holds : Bool) (fault : AuthFault) (front whole back : Option AuthFault) → (front ≡ None → whole ≡ back)
-    → cond holds (Some fault) front ≡ None → cond holds (Some fault) whole ≡ back
-later_by true fault front whole back more none = absurd (cc)
-later_by false fault front whole back more none = more none
-
--- none of the first holds
-pub first_later : (cs ds : List Condition) → first_fault cs ≡ None → first_fault (cs ++ ds) ≡ first_fault ds
-first_later [] ds none = refl
-first_later (c ∷ cs) ds none = later_by c.holds c.fault (first_fault cs) (first_fault (cs ++ ds)) (first_fault ds) (first_later cs ds) none
-
-here_by : (holds : Bool) (here fault : AuthFault) (front whole : Option AuthFault) → (front ≡ Some fault → whole ≡ Some fault)
-    → cond holds (Some here) front ≡ Some fault → cond holds (Some here) whole ≡ Some fault
-here_by true here fault front whole more is = is
-here_by false here fault front whole more is = more is
-
--- one of the first holds
-pub first_here : (cs ds : List Condition) (fault : AuthFault) → first_fault cs ≡ Some fault → first_fault (cs ++ ds) ≡ Some fault
-first_here [] ds fault is = absurd (cc)
-first_here (c ∷ cs) ds fault is = here_by c.holds c.fault fault (first_fault cs) (first_fault (cs ++ ds)) (first_here cs ds fault) is
-
-pub first_of : (cs : List Condition) (fault : AuthFault) → first_fault cs ≡ Some fault → IsFirstOf cs fault
+pub first_of : (cs : List (Condition AuthFault)) (fault : AuthFault) → first_fault cs ≡ Some fault → IsFirstOf cs fault
 first_of cs NoMemory is = tt
 first_of cs fault is = is
 
-module _ (keys : List Pair) (most : ℕ) (form : Bool) (body : List ℕ) (pairs : List Pair) where
-  abbrev doubles : List Condition
+module _ (keys : List Pair) (field_limit : ℕ) (form : Bool) (body : List ℕ) (pairs : List Pair) where
+  abbrev doubles : List (Condition AuthFault)
   doubles = duplicate_conditions pairs
 
-  abbrev gaps : List Condition
+  abbrev gaps : List (Condition AuthFault)
   gaps = missing_conditions form pairs
 
-  abbrev texts : List Condition
-  texts = text_conditions most pairs
+  abbrev texts : List (Condition AuthFault)
+  texts = text_conditions field_limit pairs
 
-  abbrev trust : List Condition
+  abbrev trust : List (Condition AuthFault)
   trust = credential_conditions keys form body pairs
 
-  pub told : (fault : AuthFault) → first_fault (conditions_of keys most form body pairs) ≡ Some fault → IsFirstOf (conditions_of keys most form body pairs) fault
-  told fault is = first_of (conditions_of keys most form body pairs) fault is
+  pub told : (fault : AuthFault) → first_fault (conditions_of keys field_limit form body pairs) ≡ Some fault → IsFirstOf (conditions_of keys field_limit form body pairs) fault
+  told fault is = first_of (conditions_of keys field_limit form body pairs) fault is
 
-  pub is_duplicated : (fault : AuthFault) → first_fault (duplicate_conditions pairs) ≡ Some fault → first_fault (conditions_of keys most form body pairs) ≡ Some fault
+  pub is_duplicated : (fault : AuthFault) → first_fault (duplicate_conditions pairs) ≡ Some fault → first_fault (conditions_of keys field_limit form body pairs) ≡ Some fault
   unfolding conditions_of
   is_duplicated fault is = first_here (doubles ++ gaps ++ texts) trust fault (first_here (doubles ++ gaps) texts fault (first_here doubles gaps fault is))
 
   pub lacks : (fault : AuthFault) → first_fault (duplicate_conditions pairs) ≡ None → first_fault (missing_conditions form pairs) ≡ Some fault
-      → first_fault (conditions_of keys most form body pairs) ≡ Some fault
+      → first_fault (conditions_of keys field_limit form body pairs) ≡ Some fault
   unfolding conditions_of
   lacks fault none is = first_here (doubles ++ gaps ++ texts) trust fault (first_here (doubles ++ gaps) texts fault (first_later doubles gaps none ∙ is))
 
   pub is_refused : (fault : AuthFault) → first_fault (duplicate_conditions pairs) ≡ None → first_fault (missing_conditions form pairs) ≡ None
-      → first_fault (text_conditions most pairs) ≡ Some fault → first_fault (conditions_of keys most form body pairs) ≡ Some fault
+      → first_fault (text_conditions field_limit pairs) ≡ Some fault → first_fault (conditions_of keys field_limit form body pairs) ≡ Some fault
   unfolding conditions_of
   is_refused fault none whole is =
       first_here (doubles ++ gaps ++ texts) trust fault (first_later (doubles ++ gaps) texts (first_later doubles gaps none ∙ whole) ∙ is)
 
   -- what is left are the key and the hash
-  pub is_left : first_fault (duplicate_conditions pairs) ≡ None → first_fault (missing_conditions form pairs) ≡ None → first_fault (text_conditions most pairs) ≡ None
-      → first_fault (conditions_of keys most form body pairs) ≡ first_fault (credential_conditions keys form body pairs)
+  pub is_left : first_fault (duplicate_conditions pairs) ≡ None → first_fault (missing_conditions form pairs) ≡ None → first_fault (text_conditions field_limit pairs) ≡ None
+      → first_fault (conditions_of keys field_limit form body pairs) ≡ first_fault (credential_conditions keys form body pairs)
   unfolding conditions_of
   is_left none whole fine =
       first_later (doubles ++ gaps ++ texts) trust (first_later (doubles ++ gaps) texts (first_later doubles gaps none ∙ whole) ∙ fine)

@@ -1,7 +1,7 @@
 pub mod ValueLemmas
+pub mod ProtocolLemmas
 pub mod KeyLemmas
 pub mod ConditionLemmas
-pub mod ResultLemmas
 pub mod CheckedLemmas
 pub mod OneAnswerLemmas
 pub mod SigningLemmas

@@ -6,7 +6,7 @@ use Rattle.oauth_header.specs.Item.{IsItem}
 use Rattle.oauth_header.specs.Items.{Placed}
 use Rattle.oauth_header.specs.Header.{IsHeader, AreItems, IsFirstBad, items_of}
 use Rattle.http_wire.specs.Message.{RequestParts}
-use Rattle.oauth_request.specs.Conditions.{first_fault}
+use Rattle.http_wire.specs.Conditions.{first_fault}
 use Rattle.oauth_request.specs.Checked.{Terms, IsReadable, IsSigned, IsWellSigned, IsAuthFault, Says, conditions, is_form}
 use Rattle.oauth_request.specs.Laws.{OneAnswer}
 use Rattle.oauth_request.specs.declared.checking.Signed.{Signed}

@@ -1,16 +1,17 @@
 -- What this end signs is well signed at the other.
-use Rattle.std.proofs.Common.{◌≡◌, ℕ, ◌<◌, ◌≤◌, Bool, true, false, not, ◌||◌, ◌&&◌, ◌==◌, leb, List, [], ◌∷◌, ◌++◌, length, map, refl, sym, ap, ◌∙◌, arith, Result, Ok, Err, OnOk}
+use Rattle.std.proofs.Common.{◌≡◌, ℕ, ◌<◌, ◌≤◌, true, false, not, ◌==◌, leb, List, [], ◌∷◌, ◌++◌, length, map, refl, sym, ap, ◌∙◌, arith, Result, Ok, Err, OnOk}
 use Rattle.std.proofs.lemmas.List.{map-append}
 use Rattle.std.proofs.lemmas.List.Elements.{filter-append}
 use Rattle.std.specs.Prelude.{codes, decimal, filter, bytes_eq}
-use Rattle.std.specs.List.{list_all, list_any}
-use Rattle.std.specs.Char.{is_ascii_digit, digit_value}
-use Rattle.std.specs.Str.Parse.{AllDigits}
+use Rattle.std.specs.List.{list_any}
 use Rattle.std.proofs.lemmas.Bool.Decides.{nat_tests}
 use Rattle.std.proofs.lemmas.Fmt.{decimal_is_IsNumeral_wide, length-decimal-le_wide}
 use Rattle.lti_outside.specs.Decimal.{is_decimal}
 use Rattle.lti_outside.specs.declared.pairs.Pair.{Pair}
 use Rattle.oauth_header.specs.Written.{can_be_written}
+use Rattle.http_wire.proofs.HeaderLemmas.{neither}
+use Rattle.http_wire.proofs.BackHost.{and_join}
+use Rattle.http_wire.proofs.BackBytes.{digits_test}
 use Rattle.oauth_request.specs.Protocol.{key_name, method_name, timestamp_name, nonce_name, signature_name, version_name, token_name, body_hash_name, name_of, values, IsTimestamp}
 use Rattle.oauth_request.specs.Signing.{protocol_pairs, callback_pair, pair, HoldsNone}
 use Rattle.oauth_request.specs.declared.fields.Field.{Field}
@@ -37,23 +38,19 @@ values-append name ps qs =
     ap (map (λ (p : Pair). p.value)) (filter-append (λ (p : Pair). bytes_eq p.name name) ps qs)
     ∙ map-append (λ (p : Pair). p.value) (filter (λ (p : Pair). bytes_eq p.name name) ps) (filter (λ (p : Pair). bytes_eq p.name name) qs)
 
-none_by : (named later : Bool) → named || later ≡ false → (named ≡ false) × (later ≡ false)
-none_by true later is = absurd (let e = is in cc)
-none_by false later is = (refl, is)
-
 -- nothing stands under a name that no pair has
 none_stand : (name : List ℕ) (ps : List Pair) → list_any (λ (p : Pair). bytes_eq p.name name) ps ≡ false → values name ps ≡ []
 unfolding values
 none_stand name [] none = refl
 none_stand name (p ∷ ps) none =
-    let both = none_by (bytes_eq p.name name) (list_any (λ (q : Pair). bytes_eq q.name name) ps) none in
+    let both = neither (bytes_eq p.name name) (list_any (λ (q : Pair). bytes_eq q.name name) ps) none in
     rw both.0 (none_stand name ps both.1)
 
 -- and nothing is dropped by that name
 pub none_dropped : (name : List ℕ) (ps : List Pair) → list_any (λ (p : Pair). bytes_eq p.name name) ps ≡ false → filter (λ (p : Pair). not (bytes_eq p.name name)) ps ≡ ps
 none_dropped name [] none = refl
 none_dropped name (p ∷ ps) none =
-    let both = none_by (bytes_eq p.name name) (list_any (λ (q : Pair). bytes_eq q.name name) ps) none in
+    let both = neither (bytes_eq p.name name) (list_any (λ (q : Pair). bytes_eq q.name name) ps) none in
     rw both.0 (ap (λ qs. p ∷ qs) (none_dropped name ps both.1))
 
 -- what stands under the names of the protocol
@@ -129,17 +126,6 @@ behind front pairs key nonce text moment hash none are = record {
     at f = values-append (name_of f) front pairs ∙ ap (λ (vs : List (List ℕ)). vs ++ values (name_of f) pairs) (none_stand (name_of f) front (none f))
 
 -- a moment's digits are a timestamp
-digit_test : (b : ℕ) → digit_value b < 10 → is_ascii_digit b ≡ true
-digit_test b small = grind (arith, nat_tests)
-
-and_join : (a b : Bool) → a ≡ true → b ≡ true → a && b ≡ true
-and_join true b one other = other
-and_join false b one other = one
-
-digits_test : (ds : List ℕ) → AllDigits 10 ds → list_all is_ascii_digit ds ≡ true
-digits_test [] all = refl
-digits_test (b ∷ ds) all = and_join (is_ascii_digit b) _ (digit_test b all.0) (digits_test ds all.1)
-
 at_least_one : (n : ℕ) → 0 < n → leb 1 n ≡ true
 at_least_one n some = grind (arith, nat_tests)
 

@@ -5,8 +5,6 @@ use Rattle.std.proofs.lemmas.List.{map-append}
 use Rattle.std.proofs.lemmas.List.Elements.{filter-append}
 use Rattle.lti_outside.specs.declared.pairs.Pair.{Pair}
 use Rattle.oauth_request.specs.Protocol.{values}
-use Rattle.oauth_request.specs.Found.{Stands}
-use Rattle.oauth_request.specs.declared.protocol.Found.{Found}
 
 last : (named : Bool) (front : List (List ℕ)) (pair : Pair) → front ++ map (λ (p : Pair). p.value) (cond named (pair ∷ []) []) ≡ cond named (front ++ pair.value ∷ []) front
 last true front pair = refl
@@ -19,11 +17,3 @@ values-push name pairs pair =
     ap (map (λ (p : Pair). p.value)) (filter-append (λ (p : Pair). bytes_eq p.name name) pairs (pair ∷ []))
     ∙ map-append (λ (p : Pair). p.value) (filter (λ (p : Pair). bytes_eq p.name name) pairs) (filter (λ (p : Pair). bytes_eq p.name name) (pair ∷ []))
     ∙ last (bytes_eq pair.name name) (values name pairs) pair
-
--- what stands after one more pair
-pub stands-push : (name : List ℕ) (pairs : List Pair) (pair : Pair) (found : Found) (named : Bool) (text value : List ℕ)
-    → text ≡ pair.name → value ≡ pair.value → named ≡ bytes_eq text name
-    → Stands found (cond named (values name pairs ++ value ∷ []) (values name pairs)) → Stands found (values name (pairs ++ pair ∷ []))
-stands-push name pairs pair found named text value text_is value_is tested stands =
-    let test : named ≡ bytes_eq pair.name name = tested ∙ ap (λ t. bytes_eq t name) text_is in
-    rw (values-push, ← test, ← value_is) stands

@@ -7,10 +7,11 @@ use Rattle.oauth_text.specs.declared.url.Scheme.{Scheme}
 use Rattle.oauth_sign.specs.BaseUri.{base_uri_of}
 use Rattle.oauth_sign.specs.Signature.{IsSignature}
 use Rattle.oauth_header.specs.Header.{IsHeader, IsFirstBad, items_of, header_pairs}
+use Rattle.http_wire.specs.Conditions.{Condition, first_fault}
 use Rattle.http_wire.specs.Message.{RequestParts}
 use Rattle.oauth_request.specs.Secret.{secret_in}
 use Rattle.oauth_request.specs.Protocol.{values, key_name, timestamp_name, nonce_name, signature_name, IsTimestamp}
-use Rattle.oauth_request.specs.Conditions.{Condition, first_fault, duplicate_conditions, missing_conditions, text_conditions, credential_conditions}
+use Rattle.oauth_request.specs.Conditions.{duplicate_conditions, missing_conditions, text_conditions, credential_conditions}
 use Rattle.oauth_request.specs.declared.checking.Signed.{Signed}
 use Rattle.oauth_request.specs.declared.faults.AuthFault.{AuthFault}
 use Rattle.oauth_request.specs.declared.faults.AuthFault.TheVariants.{BadAuthorization, BadForm, SignatureMismatch, NoMemory}
@@ -48,11 +49,11 @@ pub record IsReadable (q : RequestParts) : Type 0 where
   pub body : is_form q ≡ true → IsForm q.body
 
 -- what may be wrong with parameters, in order, by whether the body is a form
-unfoldable pub conditions_of : List Pair → ℕ → Bool → List ℕ → List Pair → List Condition
-conditions_of keys most form body pairs =
-    duplicate_conditions pairs ++ missing_conditions form pairs ++ text_conditions most pairs ++ credential_conditions keys form body pairs
+unfoldable pub conditions_of : List Pair → ℕ → Bool → List ℕ → List Pair → List (Condition AuthFault)
+conditions_of keys field_limit form body pairs =
+    duplicate_conditions pairs ++ missing_conditions form pairs ++ text_conditions field_limit pairs ++ credential_conditions keys form body pairs
 
-abbrev pub conditions : Terms → RequestParts → List Condition
+abbrev pub conditions : Terms → RequestParts → List (Condition AuthFault)
 conditions terms q = conditions_of terms.keys terms.field (is_form q) q.body (all_pairs q)
 
 -- the text is the signature of the request under the secret, without a token (section 3.4.2)

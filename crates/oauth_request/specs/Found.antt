@@ -1,12 +1,14 @@
 -- What was found under the protocol's names.
-use Rattle.std.specs.Prelude.{◌≡◌, ◌<◌, ℕ, List, [], ◌∷◌, length, Option, MatchOption}
+use Rattle.std.specs.Prelude.{◌≡◌, ◌<◌, ℕ, List, [], ◌∷◌, length, get_or, Option, None, MatchOption}
 use Rattle.std.specs.Borrow.{Bor}
 use Rattle.lti_outside.specs.declared.pairs.Pair.{Pair}
-use Rattle.oauth_request.specs.Protocol.{values, key_name, method_name, timestamp_name, nonce_name, signature_name, version_name, token_name, body_hash_name}
+use Rattle.http_wire.specs.Conditions.{first_fault}
+use Rattle.oauth_request.specs.Conditions.{duplicate_conditions}
+use Rattle.oauth_request.specs.Protocol.{name_of, place_of, values, key_name, method_name, timestamp_name, nonce_name, signature_name, version_name, token_name, body_hash_name}
+use Rattle.oauth_request.specs.declared.fields.Field.{Field}
 use Rattle.oauth_request.specs.declared.protocol.Found.{Found}
 use Rattle.oauth_request.specs.declared.protocol.Found.TheVariants.{Absent, Once, Repeated}
 use Rattle.oauth_request.specs.declared.protocol.Protocol.{Protocol}
-use Rattle.oauth_request.specs.declared.protocol.Single.{Single}
 use Rattle.oauth_request.specs.declared.stated.Stated.{Stated}
 
 -- these values stand under the name
@@ -15,31 +17,23 @@ Stands Absent values = values ≡ []
 Stands (Once value) values = values ≡ value.now ∷ []
 Stands Repeated values = 1 < length values
 
+-- what was found at the place of a field
+abbrev pub found_at : Protocol → Field → Found
+found_at protocol field = get_or protocol.found (place_of field) Absent
+
 -- what was found under each name is what stands there
-pub record AreFoundIn (found : Protocol) (pairs : List Pair) : Type 0 where
-  pub key : Stands found.key (values key_name pairs)
-  pub method : Stands found.method (values method_name pairs)
-  pub timestamp : Stands found.timestamp (values timestamp_name pairs)
-  pub nonce : Stands found.nonce (values nonce_name pairs)
-  pub signature : Stands found.signature (values signature_name pairs)
-  pub version : Stands found.version (values version_name pairs)
-  pub token : Stands found.token (values token_name pairs)
-  pub body_hash : Stands found.body_hash (values body_hash_name pairs)
+pub record AreFoundIn (protocol : Protocol) (pairs : List Pair) : Type 0 where
+  pub whole : length protocol.found ≡ 8
+  pub stand : (field : Field) → Stands (found_at protocol field) (values (name_of field) pairs)
+
+-- the same, and no name stands twice
+pub record AreSingle (protocol : Protocol) (pairs : List Pair) : Type 0 where
+  pub found : AreFoundIn protocol pairs
+  pub once : first_fault (duplicate_conditions pairs) ≡ None
 
 -- the one value that stands, or none
 abbrev pub IsSingle : Option (Bor (List ℕ)) → List (List ℕ) → Type 0
 IsSingle found values = MatchOption found (values ≡ []) (λ value. values ≡ value.now ∷ [])
-
--- the values are those of the pairs, in which no name stands twice
-pub record AreSingle (single : Single) (pairs : List Pair) : Type 0 where
-  pub key : IsSingle single.key (values key_name pairs)
-  pub method : IsSingle single.method (values method_name pairs)
-  pub timestamp : IsSingle single.timestamp (values timestamp_name pairs)
-  pub nonce : IsSingle single.nonce (values nonce_name pairs)
-  pub signature : IsSingle single.signature (values signature_name pairs)
-  pub version : IsSingle single.version (values version_name pairs)
-  pub token : IsSingle single.token (values token_name pairs)
-  pub body_hash : IsSingle single.body_hash (values body_hash_name pairs)
 
 -- the values are those of the pairs, in which each name that is needed stands
 pub record IsStated (stated : Stated) (pairs : List Pair) : Type 0 where

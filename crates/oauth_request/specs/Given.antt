@@ -6,7 +6,7 @@ use Rattle.oauth_request.specs.Protocol.{values, key_name, timestamp_name, nonce
 use Rattle.oauth_request.specs.declared.credentials.Credentials.{Credentials}
 
 -- each is the one value that stands, the secret is the key's, and the key and the nonce are short
-pub record AreCredentials (keys : List Pair) (most : ℕ) (pairs : List Pair) (given : Credentials) : Type 0 where
+pub record AreCredentials (keys : List Pair) (field_limit : ℕ) (pairs : List Pair) (given : Credentials) : Type 0 where
   pub key : values key_name pairs ≡ given.key ∷ []
   pub timestamp_text : List ℕ
   pub timestamp : values timestamp_name pairs ≡ timestamp_text ∷ []
@@ -14,5 +14,5 @@ pub record AreCredentials (keys : List Pair) (most : ℕ) (pairs : List Pair) (g
   pub nonce : values nonce_name pairs ≡ given.nonce ∷ []
   pub signature : values signature_name pairs ≡ given.signature ∷ []
   pub secret : secret_in keys given.key ≡ Some given.secret.now
-  pub key_short : (0 < length given.key) × (length given.key ≤ most)
-  pub nonce_short : (0 < length given.nonce) × (length given.nonce ≤ most)
+  pub key_short : (0 < length given.key) × (length given.key ≤ field_limit)
+  pub nonce_short : (0 < length given.nonce) × (length given.nonce ≤ field_limit)

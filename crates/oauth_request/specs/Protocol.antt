@@ -41,6 +41,17 @@ name_of Version = version_name
 name_of Token = token_name
 name_of BodyHash = body_hash_name
 
+-- the place of a parameter in the order in which faults name them
+abbrev pub place_of : Field → ℕ
+place_of ConsumerKey = 0
+place_of SignatureMethod = 1
+place_of Timestamp = 2
+place_of Nonce = 3
+place_of Signature = 4
+place_of Version = 5
+place_of Token = 6
+place_of BodyHash = 7
+
 -- the values that stand under a name, in order
 unfoldable pub values : List ℕ → List Pair → List (List ℕ)
 values name pairs = map (λ pair. pair.value) (filter (λ pair. bytes_eq pair.name name) pairs)

@@ -10,7 +10,7 @@ ghost use Rattle.oauth_request.specs.Checked.{IsWellSigned, IsAuthFault, Says};
 
 use crate::credentials::read_credentials;
 use crate::parameters::all_pairs;
-use crate::{AuthFault, Keys};
+use crate::{AuthFault, Field, Keys};
 use http_wire::Request;
 use lti_outside::{Limits, NoMemory, Pairs, Text};
 use oauth_sign::{base_string, base_uri, signature};
@@ -79,7 +79,7 @@ pub fn check(
 {
     let all = all_pairs(alloc, request)?;
     let given = read_credentials(alloc, request, &all, body_sum, keys, limits.field)?;
-    let pairs = all.without("oauth_signature");
+    let pairs = all.without(Field::Signature.name());
     if !is_signature(
         alloc,
         request,

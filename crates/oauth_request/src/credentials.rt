@@ -7,12 +7,13 @@ ghost use Rattle.sha1.specs.Sha1.{sha1};
 ghost use Rattle.http_wire.specs.Message.{parts_of};
 ghost use Rattle.oauth_request.specs.Checked as spec;
 ghost use Rattle.oauth_request.specs.Checked.{conditions_of};
-ghost use Rattle.oauth_request.specs.Conditions.{first_fault, IsFirstOf};
+ghost use Rattle.http_wire.specs.Conditions.{first_fault};
+ghost use Rattle.oauth_request.specs.Conditions.{IsFirstOf};
 ghost use Rattle.oauth_request.specs.Found.{IsSingle};
 ghost use Rattle.oauth_request.specs.Given.{AreCredentials};
 
 use crate::parameters::is_form;
-use crate::protocol::{found_in, is};
+use crate::protocol::found_in;
 use crate::{AuthFault, Keys};
 use http_wire::Request;
 use lti_outside::{NoMemory, Pairs, Text};
@@ -42,8 +43,7 @@ fn has_other_hash(
     match hash {
         Some(hash) if !form => {
             let text = hash_text(alloc, sum)?;
-            let other = !is(hash, text.get());
-            Ok(other)
+            Ok(hash != text.get())
         }
         _ => Ok(false),
     }
@@ -56,16 +56,18 @@ pub fn read_credentials<'a>(
     all: &Pairs,
     body_sum: &[u8; 20],
     keys: &'a Keys,
-    most: u32,
+    field_limit: u32,
 ) -> Result<Credentials<'a>, AuthFault>
     requires { spec.is_form (parts_of request.now) ≡ false → body_sum.now ≡ sha1 request.now.body.list }
-    ensures fine { OnOk result (first_fault (conditions_of keys.now most (spec.is_form (parts_of request.now)) request.now.body.list all.now) ≡ None) }
-    ensures given { IfOk result (AreCredentials keys.now most all.now) }
-    ensures fault { IfErr result (IsFirstOf (conditions_of keys.now most (spec.is_form (parts_of request.now)) request.now.body.list all.now)) }
+    ensures fine { OnOk result (first_fault (conditions_of keys.now field_limit (spec.is_form (parts_of request.now)) request.now.body.list all.now) ≡ None) }
+    ensures given { IfOk result (AreCredentials keys.now field_limit all.now) }
+    ensures fault { IfErr result (IsFirstOf (conditions_of keys.now field_limit (spec.is_form (parts_of request.now)) request.now.body.list all.now)) }
 {
     let form = is_form(request);
-    let stated = found_in(all.as_slice()).single()?.stated(form)?;
-    let timestamp = stated.timestamp(most)?;
+    let found = found_in(all.as_slice());
+    found.check_single()?;
+    let stated = found.stated(form)?;
+    let timestamp = stated.timestamp(field_limit)?;
     let Some(secret) = keys.secret(stated.key) else {
         return Err(AuthFault::UnknownKey);
     };

@@ -1,6 +1,9 @@
 // The names of the protocol's parameters.
-ghost use Rattle.std.specs.Prelude.{◌≡◌};
-ghost use Rattle.oauth_request.specs.Protocol.{name_of};
+ghost use Rattle.std.specs.Prelude.{◌≡◌, ◌<◌, false, codes, nat_eq, bytes_eq, MatchOption, find};
+ghost use Rattle.std.specs.List.{starts_with};
+ghost use Rattle.std.specs.Option.{option_copied};
+ghost use Rattle.oauth_request.specs.declared.fields.Field.{Field};
+ghost use Rattle.oauth_request.specs.Protocol.{name_of, place_of};
 
 /// A parameter of the protocol (RFC 5849, section 3.1), or the body hash of the OAuth Request Body Hash draft, in the
 /// order in which faults name them.
@@ -33,4 +36,54 @@ impl Field {
             Field::BodyHash => "oauth_body_hash",
         }
     }
+
+    /// Its place among `FIELDS`.
+    pub(crate) fn place(self) -> usize
+        ensures place { result ≡ place_of self }
+        ensures bound { result < 8 }
+    {
+        self as usize
+    }
+
+    /// The parameter of this name, where there is one.
+    pub(crate) fn with_name(name: &str) -> Option<Field>
+        ensures { MatchOption result ((field : Field) → bytes_eq name.now (name_of field) ≡ false) (λ field. name.now ≡ name_of field) }
+    {
+        if !is_prefixed(name) {
+            return None;
+        }
+        field_named(name)
+    }
+}
+
+/// All parameters, in order.
+pub(crate) const FIELDS: [Field; 8] = [
+    Field::ConsumerKey,
+    Field::SignatureMethod,
+    Field::Timestamp,
+    Field::Nonce,
+    Field::Signature,
+    Field::Version,
+    Field::Token,
+    Field::BodyHash,
+];
+
+// Whether the name begins as all of them do.
+fn is_prefixed(name: &str) -> bool
+    ensures { result ≡ starts_with nat_eq name.now (codes "oauth_") }
+{
+    name.as_bytes().starts_with(b"oauth_")
+}
+
+fn find_name(name: &str) -> Option<&'static Field>
+    ensures { option_copied result ≡ find (λ field. bytes_eq name.now (name_of field)) FIELDS }
+{
+    FIELDS.iter().find(|field| name == field.name())
+}
+
+fn field_named(name: &str) -> Option<Field>
+    ensures { MatchOption result ((field : Field) → bytes_eq name.now (name_of field) ≡ false) (λ field. name.now ≡ name_of field) }
+{
+    let field = find_name(name)?;
+    Some(*field)
 }

@@ -36,23 +36,16 @@ impl Model for Keys {
     ghost invariant = { λ keys. AreShort keys.pairs };
 }
 
-// Whether the pair has this key.
-fn is_of(pair: &Pair, key: &str) -> bool
-    ensures { result ≡ bytes_eq pair.now.name key.now }
-{
-    pair.name.get() == key
-}
-
 fn has_key(key: &str, pairs: &[Pair]) -> bool
     ensures { result ≡ list_any (λ pair. bytes_eq pair.name key.now) pairs.now }
 {
-    pairs.iter().any(|pair| is_of(pair, key))
+    pairs.iter().any(|pair| pair.name.get() == key)
 }
 
 fn pair_of<'a>(key: &str, pairs: &'a [Pair]) -> Option<&'a Pair>
     ensures { option_copied result ≡ Rattle.std.specs.Prelude.find (λ pair. bytes_eq pair.name key.now) pairs.now }
 {
-    pairs.iter().find(|pair| is_of(pair, key))
+    pairs.iter().find(|pair| pair.name.get() == key)
 }
 
 impl Keys {

@@ -24,4 +24,5 @@ pub use faults::AuthFault;
 pub use fields::Field;
 pub use keys::{Keys, KeysFault};
 pub use laws::{one_answer, signed_is_believed};
+pub use parameters::FORM_TYPE;
 pub use signing::{sign_body, sign_form};

@@ -11,11 +11,14 @@ use lti_outside::Pairs;
 use oauth_text::pairs;
 use std::alloc::Global;
 
+/// The media type of forms (URL Standard, section 5).
+pub const FORM_TYPE: &str = "application/x-www-form-urlencoded";
+
 /// Whether the body is a form.
 pub fn is_form(request: &Request) -> bool
     ensures { result ≡ spec.is_form (parts_of request.now) }
 {
-    request.media.get() == "application/x-www-form-urlencoded"
+    request.media.get() == FORM_TYPE
 }
 
 /// All parameters (RFC 5849, section 3.4.1.3.1): those of the query, of the Authorization header without `realm`, and

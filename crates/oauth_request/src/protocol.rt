@@ -1,9 +1,7 @@
 // What stands under the names of the protocol, found in one pass over the pairs.
-ghost use Rattle.std.specs.Prelude.{◌≡◌, ◌++◌, ◌∷◌, ◌==◌, true, false, ℕ, List, [], length, nat_lt, bytes_eq, if◌then◌else◌, MatchResult};
-ghost use Rattle.lti_outside.specs.declared.pairs.Pair.{Pair};
-ghost use Rattle.oauth_request.specs.declared.faults.AuthFault.TheVariants.{Duplicate};
 ghost use Rattle.oauth_request.specs.Found.{AreFoundIn};
 
+use crate::fields::FIELDS;
 use crate::{AuthFault, Field};
 use lti_outside::Pair;
 
@@ -16,129 +14,100 @@ pub enum Found<'a> {
 }
 
 impl<'a> Found<'a> {
-    ghost use Rattle.std.specs.Prelude.{◌≡◌, ◌++◌, ◌∷◌, true, false, ℕ, List, [], length, nat_lt, if◌then◌else◌, MatchResult};
-    ghost use Rattle.oauth_request.specs.declared.faults.AuthFault.TheVariants.{Duplicate};
+    ghost use Rattle.std.specs.Prelude.{◌≡◌, ◌++◌, ◌∷◌, false, ℕ, List, [], length, nat_lt};
     ghost use Rattle.oauth_request.specs.Found.{Stands, IsSingle};
 
-    // What stands after one more pair, which has the name or another one.
-    fn with(self, is_named: bool, value: &'a str) -> Found<'a>
-        ensures { (values : List (List ℕ)) → Stands self.entry values
-            → Stands result (if is_named then values ++ value.now ∷ [] else values) }
+    // What stands after one more value.
+    fn more(self, value: &'a str) -> Found<'a>
+        ensures { (values : List (List ℕ)) → Stands self.entry values → Stands result (values ++ value.now ∷ []) }
     {
         match self {
-            _ if !is_named => self,
             Found::Absent => Found::Once(value),
             _ => Found::Repeated,
         }
     }
 
-    // The value that stands, if one does, where none stands twice.
-    fn single(self, field: Field) -> Result<Option<&'a str>, AuthFault>
-        ensures { (values : List (List ℕ)) → Stands self.entry values → MatchResult result
-            (λ found. (nat_lt 1 (length values) ≡ false) × IsSingle found values)
-            (λ fault. (nat_lt 1 (length values) ≡ true) × (fault ≡ Duplicate field)) }
+    fn is_repeated(self) -> bool
+        ensures { (values : List (List ℕ)) → Stands self.entry values → result ≡ nat_lt 1 (length values) }
     {
         match self {
-            Found::Absent => Ok(None),
-            Found::Once(value) => Ok(Some(value)),
-            Found::Repeated => Err(AuthFault::Duplicate(field)),
+            Found::Repeated => true,
+            _ => false,
+        }
+    }
+
+    // The value that stands, if one does, where none stands twice.
+    fn single(self) -> Option<&'a str>
+        ensures { (values : List (List ℕ)) → Stands self.entry values → nat_lt 1 (length values) ≡ false → IsSingle result values }
+    {
+        match self {
+            Found::Once(value) => Some(value),
+            _ => None,
         }
     }
 }
 
-/// What stands under each name of the protocol.
+/// What stands under each name of the protocol, at the place of its field.
 #[derive(Clone, Copy)]
 pub struct Protocol<'a> {
-    pub key: Found<'a>,
-    pub method: Found<'a>,
-    pub timestamp: Found<'a>,
-    pub nonce: Found<'a>,
-    pub signature: Found<'a>,
-    pub version: Found<'a>,
-    pub token: Found<'a>,
-    pub body_hash: Found<'a>,
-}
-
-const NONE_FOUND: Protocol<'static> = Protocol {
-    key: Found::Absent,
-    method: Found::Absent,
-    timestamp: Found::Absent,
-    nonce: Found::Absent,
-    signature: Found::Absent,
-    version: Found::Absent,
-    token: Found::Absent,
-    body_hash: Found::Absent,
-};
-
-/// Whether two texts are the same.
-pub fn is(text: &str, other: &str) -> bool
-    ensures { result ≡ bytes_eq text.now other.now }
-{
-    text == other
-}
-
-/// The values under the names of the protocol, where none stands twice.
-#[derive(Clone, Copy)]
-pub struct Single<'a> {
-    pub key: Option<&'a str>,
-    pub method: Option<&'a str>,
-    pub timestamp: Option<&'a str>,
-    pub nonce: Option<&'a str>,
-    pub signature: Option<&'a str>,
-    pub version: Option<&'a str>,
-    pub token: Option<&'a str>,
-    pub body_hash: Option<&'a str>,
+    found: [Found<'a>; 8],
 }
 
 impl<'a> Protocol<'a> {
-    ghost use Rattle.std.specs.Prelude.{◌≡◌, ◌++◌, ◌∷◌, List, [], None, Some, MatchResult};
+    ghost use Rattle.std.specs.Prelude.{◌≡◌, ◌++◌, ◌∷◌, true, false, List, [], Some, MatchResult};
     ghost use Rattle.lti_outside.specs.declared.pairs.Pair.{Pair};
-    ghost use Rattle.oauth_request.specs.Conditions.{first_fault, duplicate_conditions};
-    ghost use Rattle.oauth_request.specs.Found.{AreFoundIn, AreSingle};
+    ghost use Rattle.oauth_request.specs.declared.faults.AuthFault.TheVariants.{Missing};
+    ghost use Rattle.oauth_request.specs.Conditions.{duplicate_conditions, is_missing};
+    ghost use Rattle.http_wire.specs.Conditions.{first_fault};
+    ghost use Rattle.oauth_request.specs.Protocol.{values, name_of};
+    ghost use Rattle.oauth_request.specs.Found.{AreFoundIn, AreSingle, Stands, IsSingle};
 
-    // What stands after one more pair.
-    fn with(self, pair: &'a Pair) -> Protocol<'a>
-        ensures { (pairs : List Pair) → AreFoundIn self.entry pairs → AreFoundIn result (pairs ++ pair.now ∷ []) }
+    // What stands under a name.
+    fn get(&self, field: Field) -> Found<'a>
+        ensures { (pairs : List Pair) → AreFoundIn self.now pairs → Stands result (values (name_of field) pairs) }
     {
-        let name = pair.name.get();
-        let value = pair.value.get();
-        Protocol {
-            key: self.key.with(is(name, "oauth_consumer_key"), value),
-            method: self.method.with(is(name, "oauth_signature_method"), value),
-            timestamp: self.timestamp.with(is(name, "oauth_timestamp"), value),
-            nonce: self.nonce.with(is(name, "oauth_nonce"), value),
-            signature: self.signature.with(is(name, "oauth_signature"), value),
-            version: self.version.with(is(name, "oauth_version"), value),
-            token: self.token.with(is(name, "oauth_token"), value),
-            body_hash: self.body_hash.with(is(name, "oauth_body_hash"), value),
-        }
+        self.found[field.place()]
     }
 
-    /// The values, or the first name that stands twice.
-    #[tactic(auto, unfolding(crate::specs::Conditions::duplicate_conditions))]
-    pub fn single(&self) -> Result<Single<'a>, AuthFault>
+    // Adds what one more pair says.
+    fn add(&mut self, pair: &'a Pair)
+        ensures { (pairs : List Pair) → AreFoundIn self.old pairs → AreFoundIn self.new (pairs ++ pair.now ∷ []) }
+    {
+        let Some(field) = Field::with_name(pair.name.get()) else {
+            return;
+        };
+        let more = self.get(field).more(pair.value.get());
+        self.found[field.place()] = more;
+    }
+
+    /// The first name that stands twice, if one does.
+    pub fn check_single(&self) -> Result<(), AuthFault>
         ensures { (pairs : List Pair) → AreFoundIn self.now pairs → MatchResult result
-            (λ single. (first_fault (duplicate_conditions pairs) ≡ None) × AreSingle single pairs)
+            (λ _. AreSingle self.now pairs)
             (λ fault. first_fault (duplicate_conditions pairs) ≡ Some fault) }
     {
-        let key = self.key.single(Field::ConsumerKey)?;
-        let method = self.method.single(Field::SignatureMethod)?;
-        let timestamp = self.timestamp.single(Field::Timestamp)?;
-        let nonce = self.nonce.single(Field::Nonce)?;
-        let signature = self.signature.single(Field::Signature)?;
-        let version = self.version.single(Field::Version)?;
-        let token = self.token.single(Field::Token)?;
-        let body_hash = self.body_hash.single(Field::BodyHash)?;
-        Ok(Single {
-            key,
-            method,
-            timestamp,
-            nonce,
-            signature,
-            version,
-            token,
-            body_hash,
-        })
+        for field in &FIELDS {
+            if self.get(*field).is_repeated() {
+                return Err(AuthFault::Duplicate(*field));
+            }
+        }
+        Ok(())
+    }
+
+    /// The value of a name, if it stands, where no name stands twice.
+    pub fn value(&self, field: Field) -> Option<&'a str>
+        ensures { (pairs : List Pair) → AreSingle self.now pairs → IsSingle result (values (name_of field) pairs) }
+    {
+        self.get(field).single()
+    }
+
+    /// The value of a name that is needed, where no name stands twice.
+    pub fn needed(&self, field: Field) -> Result<&'a str, AuthFault>
+        ensures { (pairs : List Pair) → AreSingle self.now pairs → MatchResult result
+            (λ value. (is_missing pairs field ≡ false) × (values (name_of field) pairs ≡ value.now ∷ []))
+            (λ fault. (is_missing pairs field ≡ true) × (fault ≡ Missing field)) }
+    {
+        self.value(field).ok_or(AuthFault::Missing(field))
     }
 }
 
@@ -146,9 +115,11 @@ impl<'a> Protocol<'a> {
 pub fn found_in(pairs: &[Pair]) -> Protocol<'_>
     ensures { AreFoundIn result pairs.now }
 {
-    let mut found = NONE_FOUND;
+    let mut found = Protocol {
+        found: [Found::Absent; 8],
+    };
     for pair in pairs {
-        found = found.with(pair);
+        found.add(pair);
     }
     found
 }

@@ -3,8 +3,10 @@ ghost use Rattle.std.specs.Prelude.{◌≡◌, ◌++◌, ◌∷◌, [], false, b
 ghost use Rattle.http_wire.specs.Message as message;
 ghost use Rattle.oauth_text.specs.UrlView.{parts_of};
 ghost use Rattle.oauth_request.specs.Checked as spec;
-ghost use Rattle.oauth_request.specs.Signing.{CanSign, HoldsNone, IsSignatureOf, IsSignedForm, IsSignedBody, protocol_pairs};
+ghost use Rattle.oauth_request.specs.Signing.{CanSign, HoldsNone, IsSignatureOf, IsSignedForm, IsSignedBody, pair, protocol_pairs};
+ghost use Rattle.oauth_request.specs.Protocol.{name_of};
 
+use crate::Field;
 use http_wire::Request;
 use itoa::Buffer;
 use lti_outside::{Bytes, NoMemory, Pair, Pairs, Tap, Text};
@@ -14,7 +16,7 @@ use std::alloc::Global;
 
 // Appends a pair.
 fn push(list: &mut Pairs, alloc: Global, name: &str, value: &str) -> Result<(), NoMemory>
-    ensures { OnOk result (list.new ≡ list.old ++ (record { name = name.now; value = value.now }) ∷ []) }
+    ensures { OnOk result (list.new ≡ list.old ++ pair name.now value.now ∷ []) }
 {
     list.push(Pair {
         name: Text::new(alloc, name)?,
@@ -22,8 +24,15 @@ fn push(list: &mut Pairs, alloc: Global, name: &str, value: &str) -> Result<(), 
     })
 }
 
+// Appends a parameter of the protocol.
+fn push_field(list: &mut Pairs, alloc: Global, field: Field, value: &str) -> Result<(), NoMemory>
+    ensures { OnOk result (list.new ≡ list.old ++ pair (name_of field) value.now ∷ []) }
+{
+    push(list, alloc, field.name(), value)
+}
+
 // Appends the parameters of the protocol that every signed request has, besides the signature.
-#[tactic(auto, unfolding(crate::specs::Signing::protocol_pairs, crate::specs::Protocol::key_name, crate::specs::Protocol::method_name, crate::specs::Protocol::timestamp_name, crate::specs::Protocol::nonce_name, crate::specs::Protocol::version_name))]
+#[tactic(auto, unfolding(crate::specs::Signing::protocol_pairs))]
 fn push_protocol(
     list: &mut Pairs,
     alloc: Global,
@@ -34,11 +43,11 @@ fn push_protocol(
     ensures { OnOk result (list.new ≡ list.old ++ protocol_pairs key.now moment nonce.now) }
 {
     let mut digits = Buffer::new();
-    push(list, alloc, "oauth_consumer_key", key)?;
-    push(list, alloc, "oauth_signature_method", "HMAC-SHA1")?;
-    push(list, alloc, "oauth_timestamp", digits.format(moment))?;
-    push(list, alloc, "oauth_nonce", nonce)?;
-    push(list, alloc, "oauth_version", "1.0")
+    push_field(list, alloc, Field::ConsumerKey, key)?;
+    push_field(list, alloc, Field::SignatureMethod, "HMAC-SHA1")?;
+    push_field(list, alloc, Field::Timestamp, digits.format(moment))?;
+    push_field(list, alloc, Field::Nonce, nonce)?;
+    push_field(list, alloc, Field::Version, "1.0")
 }
 
 // The signature of a POST to the URL with these parameters besides those of its query.
@@ -78,7 +87,7 @@ pub fn sign_form(
     push_protocol(&mut list, alloc, key, moment, nonce)?;
     push(&mut list, alloc, "oauth_callback", "about:blank")?;
     let text = sign(alloc, url, &list, secret)?;
-    push(&mut list, alloc, "oauth_signature", text.get())?;
+    push_field(&mut list, alloc, Field::Signature, text.get())?;
     Ok(list)
 }
 
@@ -106,9 +115,9 @@ pub fn sign_body(
     let sum = hash_text(alloc, &hash.finish())?;
     let mut list = Pairs::new(alloc);
     push_protocol(&mut list, alloc, key, moment, nonce)?;
-    push(&mut list, alloc, "oauth_body_hash", sum.get())?;
+    push_field(&mut list, alloc, Field::BodyHash, sum.get())?;
     let text = sign(alloc, url, &list, secret)?;
-    push(&mut list, alloc, "oauth_signature", text.get())?;
+    push_field(&mut list, alloc, Field::Signature, text.get())?;
     Ok(Request {
         method: Text::new(alloc, "POST")?,
         path: url.path.copy()?,

@@ -1,10 +1,8 @@
 // What the parameters of the protocol say of a request.
-ghost use Rattle.std.specs.Prelude.{◌≡◌, ◌∷◌, ◌==◌, true, false, ℕ, List, [], length, MatchResult, MatchOption};
-ghost use Rattle.oauth_request.specs.declared.faults.AuthFault.TheVariants.{Missing};
-ghost use Rattle.oauth_request.specs.Found.{IsSingle};
+ghost use Rattle.std.specs.Prelude.{◌≡◌, true, false, MatchOption};
 ghost use Rattle.oauth_request.specs.Protocol as spec;
 
-use crate::protocol::{Single, is};
+use crate::protocol::Protocol;
 use crate::{AuthFault, Field};
 use lti_outside::read_decimal;
 
@@ -21,34 +19,27 @@ pub struct Stated<'a> {
     pub body_hash: Option<&'a str>,
 }
 
-// The value of a name that is needed.
-fn needed<'a>(found: Option<&'a str>, field: Field) -> Result<&'a str, AuthFault>
-    ensures { (values : List (List ℕ)) → IsSingle found.entry values → MatchResult result
-        (λ value. ((length values == 0) ≡ false) × (values ≡ value.now ∷ []))
-        (λ fault. ((length values == 0) ≡ true) × (fault ≡ Missing field)) }
-{
-    found.ok_or(AuthFault::Missing(field))
-}
-
-impl<'a> Single<'a> {
-    ghost use Rattle.std.specs.Prelude.{◌≡◌, List, None, Some, false, MatchResult};
+impl<'a> Protocol<'a> {
+    ghost use Rattle.std.specs.Prelude.{◌≡◌, List, None, Some, MatchResult};
     ghost use Rattle.lti_outside.specs.declared.pairs.Pair.{Pair};
-    ghost use Rattle.oauth_request.specs.Conditions.{first_fault, missing_conditions};
+    ghost use Rattle.http_wire.specs.Conditions.{first_fault};
+    ghost use Rattle.oauth_request.specs.Conditions.{missing_conditions};
     ghost use Rattle.oauth_request.specs.Found.{AreSingle, IsStated};
 
-    /// What is said, or the first name that is missing, by whether the body is a form.
+    /// What is said, where no name stands twice, or the first name that is missing, by whether the body is a form.
     #[tactic(auto, unfolding(crate::specs::Conditions::missing_conditions))]
     pub fn stated(&self, form: bool) -> Result<Stated<'a>, AuthFault>
         ensures { (pairs : List Pair) → AreSingle self.now pairs → MatchResult result
             (λ stated. (first_fault (missing_conditions form pairs) ≡ None) × IsStated stated pairs)
             (λ fault. first_fault (missing_conditions form pairs) ≡ Some fault) }
     {
-        let key = needed(self.key, Field::ConsumerKey)?;
-        let method = needed(self.method, Field::SignatureMethod)?;
-        let timestamp = needed(self.timestamp, Field::Timestamp)?;
-        let nonce = needed(self.nonce, Field::Nonce)?;
-        let signature = needed(self.signature, Field::Signature)?;
-        if !form && self.body_hash.is_none() {
+        let key = self.needed(Field::ConsumerKey)?;
+        let method = self.needed(Field::SignatureMethod)?;
+        let timestamp = self.needed(Field::Timestamp)?;
+        let nonce = self.needed(Field::Nonce)?;
+        let signature = self.needed(Field::Signature)?;
+        let body_hash = self.value(Field::BodyHash);
+        if !form && body_hash.is_none() {
             return Err(AuthFault::Missing(Field::BodyHash));
         }
         Ok(Stated {
@@ -57,9 +48,9 @@ impl<'a> Single<'a> {
             timestamp,
             nonce,
             signature,
-            version: self.version,
-            token: self.token,
-            body_hash: self.body_hash,
+            version: self.value(Field::Version),
+            token: self.value(Field::Token),
+            body_hash,
         })
     }
 }
@@ -68,7 +59,7 @@ fn is_other_version(version: Option<&str>) -> bool
     ensures { MatchOption version.entry (result ≡ false) (λ value. result ≡ spec.is_other_version value.now) }
 {
     match version {
-        Some(version) => !is(version, "1.0"),
+        Some(version) => version != "1.0",
         None => false,
     }
 }
@@ -82,10 +73,10 @@ fn is_token(token: Option<&str>) -> bool
     }
 }
 
-fn is_long(text: &str, most: u32) -> bool
-    ensures { result ≡ spec.is_long most text.now }
+fn is_long(text: &str, field_limit: u32) -> bool
+    ensures { result ≡ spec.is_long field_limit text.now }
 {
-    text.len() > most as usize
+    text.len() > field_limit as usize
 }
 
 // The number that a timestamp spells.
@@ -101,19 +92,20 @@ fn timestamp_of(text: &str) -> Option<u64>
 impl Stated<'_> {
     ghost use Rattle.std.specs.Prelude.{◌≡◌, ◌<◌, ◌≤◌, length, List, None, Some, MatchResult};
     ghost use Rattle.lti_outside.specs.declared.pairs.Pair.{Pair};
-    ghost use Rattle.oauth_request.specs.Conditions.{first_fault, text_conditions};
+    ghost use Rattle.http_wire.specs.Conditions.{first_fault};
+    ghost use Rattle.oauth_request.specs.Conditions.{text_conditions};
     ghost use Rattle.oauth_request.specs.Protocol.{IsTimestamp};
     ghost use Rattle.oauth_request.specs.Found.{IsStated};
 
-    /// The number of the timestamp, or the first value that is refused. A key or nonce has at most `most` bytes.
+    /// The number of the timestamp, or the first value that is refused. A key or nonce has at most `field_limit` bytes.
     #[tactic(auto, unfolding(crate::specs::Conditions::text_conditions))]
-    pub fn timestamp(&self, most: u32) -> Result<u64, AuthFault>
+    pub fn timestamp(&self, field_limit: u32) -> Result<u64, AuthFault>
         ensures { (pairs : List Pair) → IsStated self.now pairs → MatchResult result
-            (λ number. (first_fault (text_conditions most pairs) ≡ None) × IsTimestamp self.now.timestamp.now number
-            × (length self.now.key.now ≤ most) × (0 < length self.now.nonce.now) × (length self.now.nonce.now ≤ most))
-            (λ fault. first_fault (text_conditions most pairs) ≡ Some fault) }
+            (λ number. (first_fault (text_conditions field_limit pairs) ≡ None) × IsTimestamp self.now.timestamp.now number
+            × (length self.now.key.now ≤ field_limit) × (0 < length self.now.nonce.now) × (length self.now.nonce.now ≤ field_limit))
+            (λ fault. first_fault (text_conditions field_limit pairs) ≡ Some fault) }
     {
-        if !is(self.method, "HMAC-SHA1") {
+        if self.method != "HMAC-SHA1" {
             return Err(AuthFault::UnsupportedMethod);
         }
         if is_other_version(self.version) {
@@ -128,7 +120,7 @@ impl Stated<'_> {
         if self.nonce.is_empty() {
             return Err(AuthFault::BadNonce);
         }
-        if is_long(self.key, most) || is_long(self.nonce, most) {
+        if is_long(self.key, field_limit) || is_long(self.nonce, field_limit) {
             return Err(AuthFault::TooLong);
         }
         Ok(number)

@@ -9,8 +9,6 @@ use std::alloc::Global;
 use std::process::Abort;
 use std::test::Fail;
 
-const FORM: &str = "application/x-www-form-urlencoded";
-
 const XML: &str = "application/xml";
 
 fn push(list: &mut Pairs, alloc: Global, name: &str, value: &str) -> Result<(), Fail> {
@@ -86,112 +84,112 @@ fn requests_without_and_with_one_fault(rt: HostRuntime) -> Result<(), Fail> {
     for (query, media, header, body, want) in [
         (
             "",
-            FORM,
+            FORM_TYPE,
             "",
             "a=1&oauth_consumer_key=12345&oauth_signature_method=HMAC-SHA1&oauth_timestamp=1400000000&oauth_nonce=n1&oauth_version=1.0&oauth_signature=UeItB3GozT2T2NU41cFJ0zdwiZg%3D",
             None,
         ),
         (
             "course=7",
-            FORM,
+            FORM_TYPE,
             "",
             "a=1&oauth_consumer_key=12345&oauth_signature_method=HMAC-SHA1&oauth_timestamp=1400000000&oauth_nonce=n1&oauth_version=1.0&oauth_signature=iU0BHVRPiXQ8hILAwVFgx%2BFJjFY%3D",
             None,
         ),
         (
             "course=8",
-            FORM,
+            FORM_TYPE,
             "",
             "a=1&oauth_consumer_key=12345&oauth_signature_method=HMAC-SHA1&oauth_timestamp=1400000000&oauth_nonce=n1&oauth_version=1.0&oauth_signature=iU0BHVRPiXQ8hILAwVFgx%2BFJjFY%3D",
             Some(AuthFault::SignatureMismatch),
         ),
         (
             "",
-            FORM,
+            FORM_TYPE,
             "",
             "a=1&oauth_consumer_key=12345&oauth_signature_method=HMAC-SHA1&oauth_timestamp=1400000000&oauth_nonce=n1&oauth_version=1.0&oauth_signature=UeItB3GozT2T2NU41cFJ0zdwiZg%3D&b=%FF",
             Some(AuthFault::BadForm),
         ),
         (
             "",
-            FORM,
+            FORM_TYPE,
             "",
             "a=1&oauth_consumer_key=12345&oauth_signature_method=HMAC-SHA1&oauth_timestamp=1400000000&oauth_nonce=n1&oauth_version=1.0&oauth_signature=UeItB3GozT2T2NU41cFJ0zdwiZg%3D&oauth_nonce=n2",
             Some(AuthFault::Duplicate(Field::Nonce)),
         ),
         (
             "",
-            FORM,
+            FORM_TYPE,
             "",
             "oauth_signature_method=HMAC-SHA1&oauth_timestamp=1&oauth_nonce=n&oauth_signature=UeItB3GozT2T2NU41cFJ0zdwiZg%3D",
             Some(AuthFault::Missing(Field::ConsumerKey)),
         ),
         (
             "",
-            FORM,
+            FORM_TYPE,
             "",
             "a=1&oauth_consumer_key=12345&oauth_signature_method=HMAC-SHA1&oauth_timestamp=1400000000&oauth_nonce=n1&oauth_version=1.0",
             Some(AuthFault::Missing(Field::Signature)),
         ),
         (
             "",
-            FORM,
+            FORM_TYPE,
             "",
             "oauth_consumer_key=12345&oauth_signature_method=PLAINTEXT&oauth_timestamp=1&oauth_nonce=n&oauth_signature=UeItB3GozT2T2NU41cFJ0zdwiZg%3D",
             Some(AuthFault::UnsupportedMethod),
         ),
         (
             "",
-            FORM,
+            FORM_TYPE,
             "",
             "oauth_consumer_key=12345&oauth_signature_method=HMAC-SHA1&oauth_timestamp=1&oauth_nonce=n&oauth_version=1.1&oauth_signature=UeItB3GozT2T2NU41cFJ0zdwiZg%3D",
             Some(AuthFault::BadVersion),
         ),
         (
             "",
-            FORM,
+            FORM_TYPE,
             "",
             "a=1&oauth_consumer_key=12345&oauth_signature_method=HMAC-SHA1&oauth_timestamp=1400000000&oauth_nonce=n1&oauth_version=1.0&oauth_token=t&oauth_signature=UeItB3GozT2T2NU41cFJ0zdwiZg%3D",
             Some(AuthFault::TokenNotSupported),
         ),
         (
             "",
-            FORM,
+            FORM_TYPE,
             "",
             "oauth_consumer_key=12345&oauth_signature_method=HMAC-SHA1&oauth_timestamp=0&oauth_nonce=n&oauth_signature=UeItB3GozT2T2NU41cFJ0zdwiZg%3D",
             Some(AuthFault::BadTimestamp),
         ),
         (
             "",
-            FORM,
+            FORM_TYPE,
             "",
             "oauth_consumer_key=12345&oauth_signature_method=HMAC-SHA1&oauth_timestamp=1&oauth_nonce=&oauth_signature=UeItB3GozT2T2NU41cFJ0zdwiZg%3D",
             Some(AuthFault::BadNonce),
         ),
         (
             "",
-            FORM,
+            FORM_TYPE,
             "",
             "oauth_consumer_key=0000000000000000000000000000000000000000000000000000000000000000000000000000000000000000000000000000000000000000000000000000000000000000000000000000000000000000000000000000000000000000000000000000000000000000000000000000000000000000000000000000000000000001&oauth_signature_method=HMAC-SHA1&oauth_timestamp=1&oauth_nonce=n&oauth_signature=UeItB3GozT2T2NU41cFJ0zdwiZg%3D",
             Some(AuthFault::TooLong),
         ),
         (
             "",
-            FORM,
+            FORM_TYPE,
             "",
             "oauth_consumer_key=1234&oauth_signature_method=HMAC-SHA1&oauth_timestamp=1&oauth_nonce=n&oauth_signature=UeItB3GozT2T2NU41cFJ0zdwiZg%3D",
             Some(AuthFault::UnknownKey),
         ),
         (
             "",
-            FORM,
+            FORM_TYPE,
             "",
             "a=1&oauth_consumer_key=12345&oauth_signature_method=HMAC-SHA1&oauth_timestamp=1400000000&oauth_nonce=n1&oauth_version=1.0&oauth_signature=UeItB3GozT2T2NU41cFJ0zdwiZg",
             Some(AuthFault::SignatureMismatch),
         ),
         (
             "",
-            FORM,
+            FORM_TYPE,
             "",
             "a=1&oauth_consumer_key=12345&oauth_signature_method=HMAC-SHA1&oauth_timestamp=1400000000&oauth_nonce=n1&oauth_version=1.0&oauth_signature=",
             Some(AuthFault::SignatureMismatch),
@@ -245,42 +243,42 @@ fn the_first_of_two_faults_is_named(rt: HostRuntime) -> Result<(), Fail> {
     for (query, media, header, body, want) in [
         (
             "b=%FF",
-            FORM,
+            FORM_TYPE,
             "OAuth a",
             "",
             Some(AuthFault::BadAuthorization { at: 6 }),
         ),
         (
             "b=%FF",
-            FORM,
+            FORM_TYPE,
             "",
             "oauth_nonce=1&oauth_nonce=2",
             Some(AuthFault::BadForm),
         ),
         (
             "oauth_token=",
-            FORM,
+            FORM_TYPE,
             "OAuth oauth_token=\"\", oauth_nonce=\"1\"",
             "oauth_nonce=2",
             Some(AuthFault::Duplicate(Field::Nonce)),
         ),
         (
             "",
-            FORM,
+            FORM_TYPE,
             "",
             "oauth_signature_method=PLAINTEXT",
             Some(AuthFault::Missing(Field::ConsumerKey)),
         ),
         (
             "",
-            FORM,
+            FORM_TYPE,
             "",
             "oauth_consumer_key=1&oauth_signature_method=HMAC-SHA1&oauth_timestamp=&oauth_nonce=&oauth_signature=&oauth_version=2",
             Some(AuthFault::BadVersion),
         ),
         (
             "",
-            FORM,
+            FORM_TYPE,
             "",
             "oauth_consumer_key=1&oauth_signature_method=HMAC-SHA1&oauth_timestamp=-1&oauth_nonce=&oauth_signature=",
             Some(AuthFault::BadTimestamp),
@@ -298,7 +296,7 @@ fn what_a_signed_request_says(rt: HostRuntime) -> Result<(), Fail> {
     let alloc = rt.alloc();
     let form =
         "a=1&oauth_consumer_key=12345&oauth_signature_method=HMAC-SHA1&oauth_timestamp=1400000000&oauth_nonce=n1&oauth_version=1.0&oauth_token=&oauth_signature=7x%2BHedphn7CGRmVbRWMS74KoKjo%3D";
-    let sent = request(alloc, "", FORM, "", form.as_bytes())?;
+    let sent = request(alloc, "", FORM_TYPE, "", form.as_bytes())?;
     let short = checked(&rt, alloc, &sent, 4)?.err();
     assert_eq!(rt; short, Some(AuthFault::TooLong));
     let signed = checked(&rt, alloc, &sent, 5)??;
@@ -391,7 +389,7 @@ fn a_form_is_signed_and_believed(rt: HostRuntime) -> Result<(), Fail> {
         "oauth_consumer_key=12345\noauth_signature_method=HMAC-SHA1\noauth_timestamp=1400000000\noauth_nonce=n 1\noauth_version=1.0\noauth_callback=about:blank\noauth_signature=fc2MpIscRGGDtcp67wQMUqEVGGw=\n"
     );
     let body = form_text(alloc, &signed)?;
-    let sent = request(alloc, "course=7", FORM, "", body.get())?;
+    let sent = request(alloc, "course=7", FORM_TYPE, "", body.get())?;
     assert!(rt; checked(&rt, alloc, &sent, 255)?.is_ok());
     Ok(())
 }

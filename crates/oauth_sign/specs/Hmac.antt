@@ -11,7 +11,7 @@ short_key key = if nat_lt 64 (length key) then digest.sha1 key else key
 abbrev pub key_block : List ℕ → List ℕ
 key_block key = short_key key ++ replicate (64 - length (short_key key)) 0
 
--- each byte of the key's block with these bits turned
+-- the exclusive or of each byte of the key's block with these bits
 abbrev pub padded_key : ℕ → List ℕ → List ℕ
 padded_key bits key = map (bit_xor bits) (key_block key)
 

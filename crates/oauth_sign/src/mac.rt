@@ -39,8 +39,8 @@ fn key_block(key: &[u8]) -> [u8; BLOCK_LEN]
     block
 }
 
-// Turns these bits of each byte.
-fn turn(bytes: &mut [u8], bits: u8)
+// Each byte becomes its exclusive or with these bits.
+fn exclusive_or(bytes: &mut [u8], bits: u8)
     ensures { bytes.new ≡ map (bit_xor bits) bytes.old }
 {
     for byte in bytes.iter_mut() {
@@ -48,12 +48,12 @@ fn turn(bytes: &mut [u8], bits: u8)
     }
 }
 
-// A digest under way that was fed the block with these bits of each byte turned.
+// A digest under way that was fed the exclusive or of the block with these bits.
 fn begun(block: &[u8; BLOCK_LEN], bits: u8) -> Sha1
     ensures { digest.Holds result (map (bit_xor bits) block.now) }
 {
     let mut padded = *block;
-    turn(&mut padded, bits);
+    exclusive_or(&mut padded, bits);
     let mut hasher = Sha1::new();
     hasher.update(&padded);
     hasher

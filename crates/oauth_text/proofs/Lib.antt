@@ -4,3 +4,4 @@ pub mod HostLemmas
 pub mod PlaceLemmas
 pub mod TargetLemmas
 pub mod NormalLemmas
+pub mod TrimLemmas

@@ -6,3 +6,4 @@ pub mod Host
 pub mod Url
 pub mod UrlView
 pub mod Faults
+pub mod Blanks

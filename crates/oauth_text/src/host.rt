@@ -1,10 +1,11 @@
 // Hosts with their ports.
-ghost use Rattle.std.specs.Prelude.{◌≡◌, ◌≤◌, ◌==◌, ℕ, List, false, true, take, drop, map, length, IfOk, IsErrOf, MatchOption};
+ghost use Rattle.std.specs.Prelude.{◌≡◌, ◌≤◌, ℕ, List, false, true, take, drop, map, length, IfOk, IsErrOf, MatchOption};
 ghost use Rattle.std.specs.Char.{to_ascii_lowercase};
-ghost use Rattle.std.specs.List.{list_all, position, position_or_len};
+ghost use Rattle.std.specs.List.{list_all};
 ghost use Rattle.oauth_text.specs.Host as spec;
 ghost use Rattle.oauth_text.specs.Host.{IsHostOf};
 
+use crate::places::place_of;
 use lti_outside::{NoMemory, Text, read_decimal};
 use percent_encoding::ascii_str;
 use std::alloc::Global;
@@ -77,23 +78,6 @@ fn is_bracketed(name: &[u8]) -> bool
             && inner.len() <= 45
             && are_address_bytes(inner),
         _ => false,
-    }
-}
-
-fn first_place(byte: u8, text: &[u8]) -> Option<usize>
-    ensures { result ≡ position (λ b. b == byte) text.now }
-{
-    text.iter().position(|b| *b == byte)
-}
-
-// The first place of the byte, or the length.
-pub(crate) fn place_of(byte: u8, text: &[u8]) -> usize
-    ensures place { result ≡ position_or_len (λ b. b == byte) text.now }
-    ensures bound { result ≤ length text.now }
-{
-    match first_place(byte, text) {
-        Some(place) => place,
-        None => text.len(),
     }
 }
 

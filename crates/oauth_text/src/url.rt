@@ -5,7 +5,8 @@ ghost use Rattle.oauth_text.specs.Url as spec;
 ghost use Rattle.oauth_text.specs.Url.{IsUrl, UrlParts};
 
 use crate::forms::{FormFault, pairs};
-use crate::host::{Host, HostFault, host_of, place_of};
+use crate::host::{Host, HostFault, host_of};
+use crate::places::place_of;
 use lti_outside::{NoMemory, Text};
 use percent_encoding::ascii_str;
 use std::alloc::Global;

@@ -10,6 +10,7 @@ use Rattle.pox_outcomes.specs.Characters.{is_within, is_allowed, IsRow, IsCharac
 use Rattle.pox_outcomes.specs.References.{IsClosing}
 use Rattle.pox_outcomes.specs.Texts.{is_gap, IsGap, IsUnit, IsRest, ends, goes, IsBegun}
 use Rattle.pox_outcomes.specs.Leaves.{IsLeaf}
+use Rattle.pox_outcomes.specs.Document.{message_end}
 use Rattle.pox_outcomes.specs.Scores.{IsScored}
 use Rattle.pox_outcomes.specs.Request.{scores, replace_end, IsTail}
 use Rattle.pox_outcomes.specs.Written.{IsXmlText, none, one}
@@ -196,10 +197,10 @@ tail_fits DeleteResult score bytes h other = h.0
 
 pub read_is_writable : ReadIsWritable
 read_is_writable = λ bytes o d.
-    let message = d.first.second.second.second in
-    let id = message.second.second in (
+    let message = d.first.first.second.second in
+    let id = d.first.second.second in (
       record {
-        message = leaf_xml (codes "/imsx_messageIdentifier >") o.message message.front message.first;
+        message = leaf_xml message_end o.message message.back message.second;
         sourced_id = leaf_xml (codes "/sourcedId >") o.sourced_id id.front id.first;
         score_text = tail_xml o.operation o.score_text id.back id.second;
       },

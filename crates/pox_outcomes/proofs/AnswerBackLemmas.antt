@@ -10,12 +10,12 @@ use Rattle.score_decimal.proofs.PrintedLemmas.{text_zero, text_one, text_between
 use Rattle.score_decimal.proofs.WritingLemmas.{digits_are}
 use Rattle.pox_outcomes.specs.Markup.{word_at}
 use Rattle.pox_outcomes.specs.Characters.{is_within}
-use Rattle.pox_outcomes.specs.Scores.{IsScored}
+use Rattle.pox_outcomes.specs.Document.{message_end}
+use Rattle.pox_outcomes.specs.Elements.{IsElementName, IsTag}
 use Rattle.pox_outcomes.specs.Optional.{IsOptional}
-use Rattle.pox_outcomes.specs.Body.{results, result_end, IsElement, IsBody}
-use Rattle.pox_outcomes.specs.Declaration.{IsOpening}
+use Rattle.pox_outcomes.specs.Body.{results, result_end, IsInside, IsBody}
 use Rattle.pox_outcomes.specs.Written.{IsXmlText, none, one, escape_byte, escape_part, escape_text}
-use Rattle.pox_outcomes.specs.Answer.{answer_root, answer_header, majors, major_place, severity_word, description_word, message_ref_word, operation_ref_word, status_end, response_end, IsEnded, IsDetails, details_of, IsAnswer}
+use Rattle.pox_outcomes.specs.Answer.{answer_root, answer_header, majors, major_place, severity_word, description_word, message_ref_word, operation_ref_word, status_end, response_end, IsDetails, details_of, IsAnswer}
 use Rattle.pox_outcomes.specs.Answered.{answer_start, status, description, operation_name, empty_response, read_response, response, referring, operating, answering, answer_end, answer_text}
 use Rattle.pox_outcomes.specs.Laws.{major_told, severity_told, description_told, score_told, answer_told, IsInRange, WrittenAnswerIsRead}
 use Rattle.pox_outcomes.specs.declared.outcome.Operation.{Operation}
@@ -24,16 +24,12 @@ use Rattle.pox_outcomes.specs.declared.outcome.Outcome.{Outcome}
 use Rattle.pox_outcomes.specs.declared.told.Told.{Told}
 use Rattle.pox_outcomes.specs.declared.told.Told.TheVariants.{Replaced, ReadScore, ReadNothing, Deleted, UnknownId, BadScore}
 use Rattle.pox_outcomes.proofs.WritingLemmas.{escape_part-nil, escape_part-cons}
+use Rattle.pox_outcomes.proofs.SequenceLemmas.{joined}
+use Rattle.pox_outcomes.proofs.DetailsLemmas.{severity_closing, description_closing, message_closing, operation_closing}
 use Rattle.pox_outcomes.proofs.SpellingLemmas.{bare, bare_markup, itself, leaf_written}
-use Rattle.pox_outcomes.proofs.BackLemmas.{declaration_written, attributes, attributes_written, language, language_is, leaf, behind_written, joins}
+use Rattle.pox_outcomes.proofs.BackLemmas.{opening, attributes, leaf, head_text, head_written, xml_ascii, scored_text, score_written, score_is}
 
 -- ---- texts in parts
-
-xml_ascii : (text : List ℕ) → list_all (is_within (0x20, 0x7F)) text ≡ true → IsXmlText text
-xml_ascii [] all = none refl
-xml_ascii (b ∷ text) all =
-    let both = and_split (is_within (0x20, 0x7F) b) (list_all (is_within (0x20, 0x7F)) text) all in
-    one (b ∷ []) text (0, omega arith, record { front = b ∷ []; back = []; are = refl; first = (b, refl, both.0); second = refl }) (xml_ascii text both.1) refl
 
 pub xml_append : (a b : List ℕ) → IsXmlText a → IsXmlText b → IsXmlText (a ++ b)
 xml_append a b (none e) is = subst (λ t. IsXmlText (t ++ b)) (sym e) is
@@ -210,86 +206,30 @@ end_of_body = codes "</imsx_POXBody>"
 abbrev body_text : Operation → Told → List ℕ
 body_text operation told = codes ">" ++ (response operation told ++ end_of_body)
 
+-- a body that holds an element of the name
+with_element : (name rest score : List ℕ) → IsElementName name → IsTag (codes " > <") (IsInside name) score rest → IsBody score (codes "><" ++ ((name ++ rest) ++ end_of_body))
+with_element name rest score name_is behind =
+    inr (joined _ _ (bare_markup (codes " > <")) (inr (joined _ _ (record { name = name; rest = rest; are = refl; name_is = name_is; behind = behind }) (bare_markup (codes " </imsx_POXBody >")))))
+
 empty_body : (operation : Operation) → IsBody [] (codes ">" ++ (empty_response operation ++ end_of_body))
-empty_body ReplaceResult = inr (record {
-  front = codes "><";
-  back = codes "replaceResultResponse/></imsx_POXBody>";
-  are = refl;
-  first = bare_markup (codes " > <");
-  second = inr (record {
-    front = codes "replaceResultResponse/>";
-    back = end_of_body;
-    are = refl;
-    first = record { name = codes "replaceResultResponse"; rest = codes "/>"; are = refl; name_is = record { start = refl; bytes = refl }; behind = inl (refl, bare_markup (codes " />")) };
-    second = bare_markup (codes " </imsx_POXBody >");
-  });
-})
-empty_body ReadResult = inr (record {
-  front = codes "><";
-  back = codes "readResultResponse/></imsx_POXBody>";
-  are = refl;
-  first = bare_markup (codes " > <");
-  second = inr (record {
-    front = codes "readResultResponse/>";
-    back = end_of_body;
-    are = refl;
-    first = record { name = codes "readResultResponse"; rest = codes "/>"; are = refl; name_is = record { start = refl; bytes = refl }; behind = inl (refl, bare_markup (codes " />")) };
-    second = bare_markup (codes " </imsx_POXBody >");
-  });
-})
-empty_body DeleteResult = inr (record {
-  front = codes "><";
-  back = codes "deleteResultResponse/></imsx_POXBody>";
-  are = refl;
-  first = bare_markup (codes " > <");
-  second = inr (record {
-    front = codes "deleteResultResponse/>";
-    back = end_of_body;
-    are = refl;
-    first = record { name = codes "deleteResultResponse"; rest = codes "/>"; are = refl; name_is = record { start = refl; bytes = refl }; behind = inl (refl, bare_markup (codes " />")) };
-    second = bare_markup (codes " </imsx_POXBody >");
-  });
-})
+empty_body ReplaceResult = with_element (codes "replaceResultResponse") (codes "/>") [] (record { start = refl; bytes = refl }) (inl (refl, bare_markup (codes " />")))
+empty_body ReadResult = with_element (codes "readResultResponse") (codes "/>") [] (record { start = refl; bytes = refl }) (inl (refl, bare_markup (codes " />")))
+empty_body DeleteResult = with_element (codes "deleteResultResponse") (codes "/>") [] (record { start = refl; bytes = refl }) (inl (refl, bare_markup (codes " />")))
 
-abbrev inside : List ℕ → List ℕ
-inside score = bare (word_at results 0) ++ (language ++ (codes "<textString" ++ (leaf (codes "/textString >") score ++ bare result_end)))
-
+-- a readResultResponse with a score, from its name on
 abbrev read_element : List ℕ → List ℕ
-read_element score = codes "readResultResponse" ++ (codes "><" ++ inside score)
-
-scored_written : (score : List ℕ) → IsXmlText score → IsScored results result_end score (inside score)
-scored_written score is =
-    inl (record { front = bare (word_at results 0); back = language ++ (codes "<textString" ++ (leaf (codes "/textString >") score ++ bare result_end)); are = refl; first = bare_markup (word_at results 0); second = behind_written result_end score is })
-
-element_written : (score : List ℕ) → IsXmlText score → IsElement score (read_element score)
-element_written score is = record {
-  name = codes "readResultResponse";
-  rest = codes "><" ++ inside score;
-  are = refl;
-  name_is = record { start = refl; bytes = refl };
-  behind = inr (record { front = codes "><"; back = inside score; are = refl; first = bare_markup (codes " > <"); second = inr (refl, scored_written score is) });
-}
-
-read_body : (score : List ℕ) → IsXmlText score → IsBody score (codes "><" ++ (read_element score ++ end_of_body))
-read_body score is = inr (record {
-  front = codes "><";
-  back = read_element score ++ end_of_body;
-  are = refl;
-  first = bare_markup (codes " > <");
-  second = inr (record { front = read_element score; back = end_of_body; are = refl; first = element_written score is; second = bare_markup (codes " </imsx_POXBody >") });
-})
+read_element score = codes "readResultResponse" ++ (codes "><" ++ scored_text results result_end score)
 
 read_response_is : (score : List ℕ) → escape_text score ≡ score → read_response score ≡ codes "<" ++ read_element score
 read_response_is score same =
-    let start = codes "<readResultResponse><result><resultScore><language>en</language><textString>" in
-    let end = codes "</textString></resultScore></result></readResultResponse>" in
-    let joined : (start ++ escape_text score) ++ end ≡ start ++ (((escape_text score ++ codes "<") ++ bare (codes "/textString >")) ++ bare result_end) =
-    joins start (escape_text score) (codes "<") (bare (codes "/textString >")) (bare result_end) in
-    ap (λ t. (start ++ t) ++ end) (sym same) ∙ joined
-    ∙ ap (λ l. codes "<readResultResponse><result><resultScore><language" ++ (l ++ (codes "<textString" ++ (leaf (codes "/textString >") score ++ bare result_end)))) (sym language_is)
+    ap (λ t. (codes "<readResultResponse><result><resultScore><language>en</language><textString>" ++ t) ++ codes "</textString></resultScore></result></readResultResponse>") (sym same)
+    ∙ score_is (codes "<readResultResponse><result><resultScore><language") result_end score
 
 read_written : (score : List ℕ) → IsXmlText score → escape_text score ≡ score → IsBody score (codes ">" ++ (read_response score ++ end_of_body))
-read_written score is same = subst (λ t. IsBody score (codes ">" ++ (t ++ end_of_body))) (sym (read_response_is score same)) (read_body score is)
+read_written score is same =
+    subst (λ t. IsBody score (codes ">" ++ (t ++ end_of_body))) (sym (read_response_is score same))
+    (with_element (codes "readResultResponse") (codes "><" ++ scored_text results result_end score) score (record { start = refl; bytes = refl })
+    (inr (joined _ _ (bare_markup (codes " > <")) (inr (refl, score_written results result_end score is)))))
 
 body_written : (operation : Operation) (told : Told) → IsInRange told → IsBody (score_told told) (body_text operation told)
 body_written operation (Replaced score) range = empty_body operation
@@ -299,71 +239,39 @@ body_written operation Deleted range = empty_body operation
 body_written operation UnknownId range = empty_body operation
 body_written operation BadScore range = empty_body operation
 
--- ---- the whole
+-- ---- the leaves
 
-abbrev opening : List ℕ
-opening = codes "<?xml version=\"1.0\" encoding=\"UTF-8\"?><imsx_POXEnvelopeResponse"
+-- text that is written as it is
+record IsPlain (text : List ℕ) : Type 0 where
+  xml : IsXmlText text
+  same : escape_text text ≡ text
 
-opening_written : IsOpening answer_root opening
-opening_written = inl (record {
-  front = codes "<?xml";
-  back = codes " version=\"1.0\" encoding=\"UTF-8\"?><imsx_POXEnvelopeResponse";
-  are = refl;
-  first = bare_markup (codes "<?xml");
-  second = record { front = codes " version=\"1.0\" encoding=\"UTF-8\"?>"; back = codes "<imsx_POXEnvelopeResponse"; are = refl; first = declaration_written; second = bare_markup answer_root };
-})
-
-xml_severity : (told : Told) → IsXmlText (severity_told told)
-xml_severity (Replaced score) = xml_ascii (codes "status") refl
-xml_severity (ReadScore score) = xml_ascii (codes "status") refl
-xml_severity ReadNothing = xml_ascii (codes "status") refl
-xml_severity Deleted = xml_ascii (codes "status") refl
-xml_severity UnknownId = xml_ascii (codes "error") refl
-xml_severity BadScore = xml_ascii (codes "error") refl
-
-severity_same : (told : Told) → escape_text (severity_told told) ≡ severity_told told
+plain_severity : (told : Told) → IsPlain (severity_told told)
 unfolding escape_part
-severity_same (Replaced score) = refl
-severity_same (ReadScore score) = refl
-severity_same ReadNothing = refl
-severity_same Deleted = refl
-severity_same UnknownId = refl
-severity_same BadScore = refl
+plain_severity (Replaced score) = record { xml = xml_ascii (codes "status") refl; same = refl }
+plain_severity (ReadScore score) = record { xml = xml_ascii (codes "status") refl; same = refl }
+plain_severity ReadNothing = record { xml = xml_ascii (codes "status") refl; same = refl }
+plain_severity Deleted = record { xml = xml_ascii (codes "status") refl; same = refl }
+plain_severity UnknownId = record { xml = xml_ascii (codes "error") refl; same = refl }
+plain_severity BadScore = record { xml = xml_ascii (codes "error") refl; same = refl }
 
-xml_operation : (operation : Operation) → IsXmlText (operation_name operation)
-xml_operation ReplaceResult = xml_ascii (codes "replaceResult") refl
-xml_operation ReadResult = xml_ascii (codes "readResult") refl
-xml_operation DeleteResult = xml_ascii (codes "deleteResult") refl
-
-operation_same : (operation : Operation) → escape_text (operation_name operation) ≡ operation_name operation
+plain_operation : (operation : Operation) → IsPlain (operation_name operation)
 unfolding escape_part
-operation_same ReplaceResult = refl
-operation_same ReadResult = refl
-operation_same DeleteResult = refl
-
-abbrev message_closing : List ℕ
-message_closing = codes "/imsx_messageIdentifier >"
-
-abbrev severity_closing : List ℕ
-severity_closing = codes "/imsx_severity >"
-
-abbrev description_closing : List ℕ
-description_closing = codes "/imsx_description >"
-
-abbrev message_ref_closing : List ℕ
-message_ref_closing = codes "/imsx_messageRefIdentifier >"
-
-abbrev operation_ref_closing : List ℕ
-operation_ref_closing = codes "/imsx_operationRefIdentifier >"
+plain_operation ReplaceResult = record { xml = xml_ascii (codes "replaceResult") refl; same = refl }
+plain_operation ReadResult = record { xml = xml_ascii (codes "readResult") refl; same = refl }
+plain_operation DeleteResult = record { xml = xml_ascii (codes "deleteResult") refl; same = refl }
 
 abbrev major_word : Told → List ℕ
 major_word told = word_at majors (major_place (major_told told))
 
--- the status up to the description
-status_is : (told : Told)
-    → status told ≡ codes "<" ++ (bare message_closing ++ (bare (major_word told) ++ (bare severity_word ++ (codes ">" ++ (escape_text (severity_told told) ++ (codes "<" ++ (bare severity_closing ++ (bare description_word ++ codes ">"))))))))
-status_is told = plain_status told ∙ ap (λ k. codes "<" ++ (bare message_closing ++ (bare (major_word told) ++ (bare severity_word ++ (codes ">" ++ (k ++ (codes "<" ++ (bare severity_closing ++ (bare description_word ++ codes ">"))))))))) (sym (severity_same told)) where
-  plain_status : (told : Told) → status told ≡ codes "<" ++ (bare message_closing ++ (bare (major_word told) ++ (bare severity_word ++ (codes ">" ++ (severity_told told ++ (codes "<" ++ (bare severity_closing ++ (bare description_word ++ codes ">"))))))))
+-- the status up to the description, around its severity
+abbrev state : Told → List ℕ → List ℕ
+state told severity =
+    codes "<" ++ (bare message_end ++ (bare (major_word told) ++ (bare severity_word ++ (codes ">" ++ (severity ++ (codes "<" ++ (bare severity_closing ++ (bare description_word ++ codes ">"))))))))
+
+status_is : (told : Told) → status told ≡ state told (escape_text (severity_told told))
+status_is told = plain_status told ∙ ap (state told) (sym (plain_severity told).same) where
+  plain_status : (told : Told) → status told ≡ state told (severity_told told)
   plain_status (Replaced score) = refl
   plain_status (ReadScore score) = refl
   plain_status ReadNothing = refl
@@ -375,99 +283,49 @@ abbrev optional_text : List ℕ → List ℕ → List ℕ → List ℕ → List 
 optional_text word closing text behind = bare word ++ (leaf closing text ++ behind)
 
 optional_written : (word closing text behind : List ℕ) (next : List ℕ → Type 0) → IsXmlText text → next behind → IsOptional word closing text next (optional_text word closing text behind)
-optional_written word closing text behind next is n =
-    inl (record { front = bare word; back = leaf closing text ++ behind; are = refl; first = bare_markup word; second = record { front = leaf closing text; back = behind; are = refl; first = leaf_written closing text is; second = n } })
-
-abbrev ended_text : Outcome → Told → List ℕ
-ended_text o told = bare status_end ++ (body_text o.operation told ++ bare response_end)
-
-ended_written : (o : Outcome) (told : Told) → IsInRange told → IsEnded (score_told told) (ended_text o told)
-ended_written o told range = record {
-  front = bare status_end;
-  back = body_text o.operation told ++ bare response_end;
-  are = refl;
-  first = bare_markup status_end;
-  second = record { front = body_text o.operation told; back = bare response_end; are = refl; first = body_written o.operation told range; second = bare_markup response_end };
-}
-
-abbrev operation_text : Outcome → Told → List ℕ
-operation_text o told = optional_text operation_ref_word operation_ref_closing (operation_name o.operation) (ended_text o told)
-
-abbrev message_text : Outcome → Told → List ℕ
-message_text o told = optional_text message_ref_word message_ref_closing o.message (operation_text o told)
-
-abbrev said_text : Outcome → Told → List ℕ
-said_text o told = optional_text description_word description_closing (description_told told o.sourced_id) (message_text o told)
+optional_written word closing text behind next is n = inl (joined _ _ (bare_markup word) (joined _ _ (leaf_written closing text is) n))
 
 abbrev details_text : Outcome → Told → List ℕ
-details_text o told = optional_text severity_word severity_closing (severity_told told) (said_text o told)
+details_text o told =
+    optional_text severity_word severity_closing (severity_told told)
+    (optional_text description_word description_closing (description_told told o.sourced_id)
+    (optional_text message_ref_word message_closing o.message
+    (optional_text operation_ref_word operation_closing (operation_name o.operation) (bare status_end ++ (body_text o.operation told ++ bare response_end)))))
 
 details_written : (o : Outcome) (told : Told) → IsXmlText o.message → IsXmlText o.sourced_id → IsInRange told → IsDetails (details_of (answer_told o told)) (details_text o told)
 details_written o told message id range =
-    let ended = ended_written o told range in
-    let operation = optional_written operation_ref_word operation_ref_closing (operation_name o.operation) (ended_text o told) (IsEnded (score_told told)) (xml_operation o.operation) ended in
-    let referring = optional_written message_ref_word message_ref_closing o.message (operation_text o told) (IsOptional operation_ref_word operation_ref_closing (operation_name o.operation) (IsEnded (score_told told))) message operation in
-    let said = optional_written description_word description_closing (description_told told o.sourced_id) (message_text o told)
-    (IsOptional message_ref_word message_ref_closing o.message (IsOptional operation_ref_word operation_ref_closing (operation_name o.operation) (IsEnded (score_told told)))) (xml_description told o.sourced_id id range) referring in
-    optional_written severity_word severity_closing (severity_told told) (said_text o told)
-    (IsOptional description_word description_closing (description_told told o.sourced_id)
-    (IsOptional message_ref_word message_ref_closing o.message (IsOptional operation_ref_word operation_ref_closing (operation_name o.operation) (IsEnded (score_told told))))) (xml_severity told) said
+    optional_written severity_word severity_closing (severity_told told) _ _ (plain_severity told).xml
+    (optional_written description_word description_closing (description_told told o.sourced_id) _ _ (xml_description told o.sourced_id id range)
+    (optional_written message_ref_word message_closing o.message _ _ message
+    (optional_written operation_ref_word operation_closing (operation_name o.operation) _ _ (plain_operation o.operation).xml
+    (joined _ _ (bare_markup status_end) (joined _ _ (body_written o.operation told range) (bare_markup response_end))))))
+
+-- ---- the whole
 
 abbrev whole : Outcome → Told → List ℕ
-whole o told = opening ++ (attributes ++ (bare answer_header ++ (leaf message_closing o.message ++ (bare (major_word told) ++ details_text o told))))
+whole o told = head_text answer_root answer_header o.message ++ (bare (major_word told) ++ details_text o told)
 
 whole_written : (o : Outcome) (told : Told) → IsXmlText o.message → IsXmlText o.sourced_id → IsInRange told → IsAnswer (answer_told o told) (whole o told)
-whole_written o told message id range =
-    let details = details_text o told in
-    let word = bare (major_word told) in
-    let first = leaf message_closing o.message in
-    record {
-      front = opening;
-      back = attributes ++ (bare answer_header ++ (first ++ (word ++ details)));
-      are = refl;
-      first = opening_written;
-      second =
-          record {
-            front = attributes;
-            back = bare answer_header ++ (first ++ (word ++ details));
-            are = refl;
-            first = attributes_written;
-            second =
-                record {
-                  front = bare answer_header;
-                  back = first ++ (word ++ details);
-                  are = refl;
-                  first = bare_markup answer_header;
-                  second =
-                      record {
-                        front = first;
-                        back = word ++ details;
-                        are = refl;
-                        first = leaf_written message_closing o.message message;
-                        second = record { front = word; back = details; are = refl; first = bare_markup (major_word told); second = details_written o told message id range };
-                      };
-                };
-          };
-    }
+whole_written o told message id range = joined _ _ (head_written answer_root answer_header o.message message) (joined _ _ (bare_markup (major_word told)) (details_written o told message id range))
 
 weave : (a b h g m l x1 j s v xs d e xd r xm o n xo z y w t : List ℕ)
     → ((((((((((a ++ (b ++ (h ++ g))) ++ m) ++ (l ++ (x1 ++ (j ++ (s ++ (g ++ (v ++ (l ++ (xs ++ (d ++ g)))))))))) ++ e) ++ (l ++ (xd ++ (r ++ g)))) ++ m) ++ (l ++ (xm ++ (o ++ g)))) ++ n) ++ (l ++ (xo ++ (z ++ g)))) ++ y) ++ (w ++ t)
-    ≡ a ++ (b ++ (h ++ ((g ++ ((m ++ l) ++ x1)) ++ (j ++ (s ++ ((g ++ ((v ++ l) ++ xs)) ++ (d ++ ((g ++ ((e ++ l) ++ xd)) ++ (r ++ ((g ++ ((m ++ l) ++ xm)) ++ (o ++ ((g ++ ((n ++ l) ++ xo)) ++ (z ++ ((g ++ (y ++ w)) ++ t))))))))))))))
+    ≡ (a ++ (b ++ (h ++ (g ++ ((m ++ l) ++ x1))))) ++ (j ++ (s ++ ((g ++ ((v ++ l) ++ xs)) ++ (d ++ ((g ++ ((e ++ l) ++ xd)) ++ (r ++ ((g ++ ((m ++ l) ++ xm)) ++ (o ++ ((g ++ ((n ++ l) ++ xo)) ++ (z ++ ((g ++ (y ++ w)) ++ t)))))))))))
 weave a b h g m l x1 j s v xs d e xd r xm o n xo z y w t = simp append_assoc
 
-abbrev parts : Outcome → Told → List ℕ → List ℕ → List ℕ → List ℕ
-parts o told state said operation =
+abbrev answer_parts : Outcome → Told → List ℕ → List ℕ → List ℕ → List ℕ
+answer_parts o told state said operation =
     answer_start ++ escape_text o.message ++ state ++ said ++ referring ++ escape_text o.message ++ operating ++ operation ++ answering ++ response o.operation told ++ answer_end
 
 text_is : (o : Outcome) (told : Told) → IsInRange told → answer_text o told ≡ whole o told
 text_is o told range =
     let said = escape_text (description_told told o.sourced_id) in
-    let state = codes "<" ++ (bare message_closing ++ (bare (major_word told) ++ (bare severity_word ++ (codes ">" ++ (escape_text (severity_told told) ++ (codes "<" ++ (bare severity_closing ++ (bare description_word ++ codes ">")))))))) in
-    ap (λ k. parts o told k (description told o.sourced_id) (operation_name o.operation)) (status_is told)
-    ∙ ap (λ k. parts o told state k (operation_name o.operation)) (sym (description_is told o.sourced_id range))
-    ∙ ap (λ k. parts o told state said k) (sym (operation_same o.operation))
-    ∙ weave opening attributes (bare answer_header) (codes ">") (escape_text o.message) (codes "<") (bare message_closing) (bare (major_word told)) (bare severity_word) (escape_text (severity_told told)) (bare severity_closing)
-    (bare description_word) said (bare description_closing) (bare message_ref_word) (bare message_ref_closing) (bare operation_ref_word) (escape_text (operation_name o.operation)) (bare operation_ref_closing) (bare status_end)
+    let state = state told (escape_text (severity_told told)) in
+    ap (λ k. answer_parts o told k (description told o.sourced_id) (operation_name o.operation)) (status_is told)
+    ∙ ap (λ k. answer_parts o told state k (operation_name o.operation)) (sym (description_is told o.sourced_id range))
+    ∙ ap (λ k. answer_parts o told state said k) (sym (plain_operation o.operation).same)
+    ∙ weave (opening answer_root) attributes (bare answer_header) (codes ">") (escape_text o.message) (codes "<") (bare message_end) (bare (major_word told)) (bare severity_word) (escape_text (severity_told told)) (bare severity_closing)
+    (bare description_word) said (bare description_closing) (bare message_ref_word) (bare message_closing) (bare operation_ref_word) (escape_text (operation_name o.operation)) (bare operation_closing) (bare status_end)
     (response o.operation told) end_of_body (bare response_end)
 
 pub written_answer_is_read : WrittenAnswerIsRead

@@ -1,28 +1,25 @@
 -- The attributes of the root element.
-use Rattle.std.proofs.Common.{◌≡◌, ◌≢◌, ℕ, zero, suc, ◌<◌, ◌≤◌, ◌⊎◌, inl, inr, ⊎_elim, Bool, true, false, ◌||◌, List, [], ◌∷◌, ◌++◌, length, append_assoc, append-nil, refl, sym, ap, ◌∙◌, subst, arith, length-append, codes}
+use Rattle.std.proofs.Common.{◌≡◌, ◌≢◌, ℕ, zero, suc, ◌<◌, ◌≤◌, ◌⊎◌, inl, inr, Bool, true, false, ◌||◌, List, [], ◌∷◌, ◌++◌, length, append_assoc, append-nil, refl, sym, ap, ◌∙◌, subst, arith, length-append, codes}
 use Rattle.std.specs.List.{list_all}
 use Rattle.std.proofs.lemmas.Bool.{false≢true}
 use Rattle.std.proofs.lemmas.Bool.Decides.{nat_tests}
 use Rattle.lti_outside.proofs.BoolLemmas.{and_split}
-use Rattle.pox_outcomes.specs.Language.{Then, ◌▸◌, StopsAt, Reads, IsAmong, Any}
+use Rattle.pox_outcomes.specs.Language.{Then, ◌▸◌, StopsAt, Reads, IsAmong, Any, IsOnce}
 use Rattle.pox_outcomes.specs.Markup.{is_white, IsWhite, IsMarkup, word_at, BeginsOtherwise}
 use Rattle.pox_outcomes.specs.Characters.{IsCharacterBy, begins}
 use Rattle.pox_outcomes.specs.Attributes.{is_name_start, is_name_byte, after_name, IsName, is_value_byte, IsValue, closes, holds, quotes, quote_at, IsQuoted, IsAttribute, is_xmlns, IsAttributes, ends, goes, ReadsAttribute}
-use Rattle.pox_outcomes.proofs.LanguageLemmas.{IsPrefixFree, IsElsewhere, After, Leads, after_leads, leads_then, leads_first, stops_here, stops_beside, stops_same, no_cons, compare}
-use Rattle.pox_outcomes.proofs.RunLemmas.{IsRun, IsOutside, BeginsOutside, run_once, leads_run}
+use Rattle.pox_outcomes.proofs.LanguageLemmas.{IsPrefixFree, IsElsewhere, After, Leads, after_leads, leads_then, leads_first, stops_here, stops_beside, stops_same, no_cons, stops_prefix, flipped, first_byte, elsewhere_byte}
+use Rattle.pox_outcomes.proofs.RunLemmas.{IsRun, IsOutside, BeginsOutside, front_of, run_once, run_parts, leads_run}
 use Rattle.pox_outcomes.proofs.MarkupLemmas.{free_markup}
-use Rattle.pox_outcomes.proofs.ChoiceLemmas.{IsCode, code_words, leads_choice, stops_choice}
+use Rattle.pox_outcomes.proofs.ChoiceLemmas.{IsCode, code_words, leads_choice, stops_choice, choice_free, nothing_behind}
 use Rattle.pox_outcomes.proofs.CharacterLemmas.{free_character}
-use Rattle.pox_outcomes.proofs.TextLemmas.{by_apart, behind_same}
+use Rattle.pox_outcomes.proofs.SequenceLemmas.{joined, then_free, behind_same, parts_even, backs_even, parts_same}
+use Rattle.pox_outcomes.proofs.TextLemmas.{by_apart}
 
 abbrev pub IsQuote : ℕ → Type 0
 IsQuote quote = (quote ≡ 34) ⊎ (quote ≡ 39)
 
 -- ---- values
-
-first_byte : (P : ℕ → Bool) (x : List ℕ) → begins P x ≡ true → (b : ℕ) × (t : List ℕ) × (x ≡ b ∷ t) × (P b ≡ true)
-first_byte P [] e = absurd (false≢true e)
-first_byte P (b ∷ t) e = (b, t, refl, e)
 
 quote_fails : (quote : ℕ) → is_value_byte quote quote ≡ false
 quote_fails quote = grind (arith, nat_tests)
@@ -67,11 +64,6 @@ from_value : (quote : ℕ) (x : List ℕ) → IsValue quote x → Then (IsCharac
 from_value quote x (closes is) = inr is
 from_value quote x (holds character rest is behind are) = inl (record { front = character; back = rest; are = are; first = is; second = behind })
 
-pub elsewhere_byte : (b : ℕ) (bytes p q r t : List ℕ) → BeginsOtherwise b bytes → p ++ q ≡ b ∷ t → bytes ≡ p ++ r → (p ≡ []) × (q ≢ [])
-elsewhere_byte b bytes [] q r t other e is = (refl, no_cons q b t e)
-elsewhere_byte b [] (c ∷ p) q r t other e is = absurd (cc)
-elsewhere_byte b (d ∷ bytes) (c ∷ p) q r t other e is = absurd (other cc)
-
 -- a stop in the value
 pub value_stops : (quote : ℕ) (rest : List ℕ) (n : ℕ) → BeginsOtherwise quote rest → StopsAt (IsCharacterBy (is_value_byte quote)) rest n → StopsAt (IsValue quote) rest n
 value_stops quote rest n other s =
@@ -85,12 +77,10 @@ free_value quote x y r s (closes is) (holds character rest c behind are) e =
 free_value quote x y r s (holds character rest c behind are) (closes is) e =
     absurd (no_quote quote character s (rest ++ r) c (ap (λ t. t ++ s) (sym is) ∙ sym e ∙ ap (λ t. t ++ r) are ∙ append_assoc character rest r))
 free_value quote x y r s (holds character rest c behind are) (holds character2 rest2 c2 behind2 are2) e =
-    let ex : x ++ r ≡ character ++ (rest ++ r) = ap (λ t. t ++ r) are ∙ append_assoc character rest r in
-    let ey : y ++ s ≡ character2 ++ (rest2 ++ s) = ap (λ t. t ++ s) are2 ∙ append_assoc character2 rest2 s in
-    let whole = sym ex ∙ e ∙ ey in
-    let same = free_character character character2 (rest ++ r) (rest2 ++ s) c.character c2.character whole in
-    let next = free_value quote rest rest2 r s behind behind2 (behind_same character character2 (rest ++ r) (rest2 ++ s) same whole) in
-    are ∙ ap (λ f. f ++ rest) same ∙ ap (λ k. character2 ++ k) next ∙ sym are2
+    let a : Then (IsCharacterBy (is_value_byte quote)) (IsValue quote) x = record { front = character; back = rest; are = are; first = c; second = behind } in
+    let b : Then (IsCharacterBy (is_value_byte quote)) (IsValue quote) y = record { front = character2; back = rest2; are = are2; first = c2; second = behind2 } in
+    let same = free_character character character2 (rest ++ r) (rest2 ++ s) c.character c2.character (parts_even r s a b e) in
+    parts_same a b same (free_value quote rest rest2 r s behind behind2 (backs_even r s a b same e))
 
 -- ---- a quoted value
 
@@ -110,32 +100,17 @@ pub quoted_behind : (place : ℕ) (bytes rest : List ℕ) (n : ℕ) → place < 
 quoted_behind place bytes rest n within reads s = (leads_choice Opens Holds 2 place bytes rest code_quotes within reads).stops n s
 
 free_quoted : IsPrefixFree IsQuoted
-free_quoted x y r s a b e =
-    let ta = a.2 in
-    let tb = b.2 in
-    let ex : x ++ r ≡ ta.front ++ (ta.back ++ r) = ap (λ t. t ++ r) ta.are ∙ append_assoc ta.front ta.back r in
-    let ey : y ++ s ≡ tb.front ++ (tb.back ++ s) = ap (λ t. t ++ s) tb.are ∙ append_assoc tb.front tb.back s in
-    let whole = sym ex ∙ e ∙ ey in
-    let same = code_quotes a.0 b.0 a.1 b.1 ta.front tb.front (ta.back ++ r) (tb.back ++ s) ta.first tb.first whole in
-    let there : IsValue (quote_at b.0) ta.back = subst (λ (k : ℕ). IsValue (quote_at k) ta.back) same.0 ta.second in
-    let next = free_value (quote_at b.0) ta.back tb.back r s there tb.second (behind_same ta.front tb.front (ta.back ++ r) (tb.back ++ s) same.1 whole) in
-    ta.are ∙ ap (λ f. f ++ ta.back) same.1 ∙ ap (λ k. tb.front ++ k) next ∙ sym tb.are
+free_quoted = choice_free Opens Holds 2 code_quotes (λ place. free_value (quote_at place))
 
-quoted_one : IsQuoted (codes "''")
-quoted_one = (1, omega arith, record { front = codes "'"; back = codes "'"; are = refl; first = record { front = []; back = codes "'"; are = refl; first = refl; second = record { front = codes "'"; back = []; are = refl; first = refl; second = refl } }; second = closes refl })
+pub quoted_one : IsQuoted (codes "''")
+quoted_one = (1, omega arith, joined (codes "'") (codes "'") (joined [] (codes "'") refl (joined (codes "'") [] refl refl)) (closes refl))
 
 -- what stands behind a name
 abbrev pub IsAssigned : List ℕ → Type 0
 IsAssigned = IsMarkup (codes " =") ▸ IsQuoted
 
 assigned_one : IsAssigned (codes "=''")
-assigned_one = record {
-  front = codes "=";
-  back = codes "''";
-  are = refl;
-  first = record { front = []; back = codes "="; are = refl; first = refl; second = record { front = codes "="; back = []; are = refl; first = refl; second = refl } };
-  second = quoted_one;
-}
+assigned_one = joined (codes "=") (codes "''") (joined [] (codes "=") refl (joined (codes "=") [] refl refl)) quoted_one
 
 -- ---- an attribute
 
@@ -212,26 +187,6 @@ attribute_fails bytes fails = record {
   apart = λ p q r d e. by_apart is_name_start bytes p q r fails (attribute_first d.0 (p ++ q) d.1) e;
 }
 
--- the bytes of a name in front
-pub record Name (bytes : List ℕ) : Type 0 where
-  pub run : List ℕ
-  pub are : bytes ≡ run ++ after_name bytes
-  pub is : IsRun is_name_byte run
-  pub outside : IsOutside is_name_byte (after_name bytes)
-
-name_cons : (t : Bool) (b : ℕ) (bytes : List ℕ) → is_name_byte b ≡ t → Name bytes → Name (b ∷ bytes)
-name_cons true b bytes e w = record {
-  run = b ∷ w.run;
-  are = rw e (ap (λ t. b ∷ t) w.are);
-  is = rw (e, w.is) refl;
-  outside = rw e w.outside;
-}
-name_cons false b bytes e w = record { run = []; are = rw e refl; is = refl; outside = rw e e }
-
-pub name_of : (bytes : List ℕ) → Name bytes
-name_of [] = record { run = []; are = refl; is = refl; outside = tt }
-name_of (b ∷ bytes) = name_cons (is_name_byte b) b bytes refl (name_of bytes)
-
 -- the name in front
 pub record Named (bytes : List ℕ) : Type 0 where
   pub name : List ℕ
@@ -241,7 +196,7 @@ pub record Named (bytes : List ℕ) : Type 0 where
 
 named_cons : (b : ℕ) (bytes : List ℕ) → is_name_start b ≡ true → Named (b ∷ bytes)
 named_cons b bytes start =
-    let w = name_of bytes in
+    let w = front_of is_name_byte after_name refl (λ b t. refl) bytes in
     let same : after_name (b ∷ bytes) ≡ after_name bytes = rw (start_byte b start) refl in
     let one : Leads Whole (b ∷ bytes) (IsRun is_name_byte ▸ IsAssigned) bytes = leads_first (b ∷ bytes) bytes free_start (record { front = b ∷ []; are = refl; is = (b, refl, start) }) in
     let two : Leads (IsRun is_name_byte ▸ IsAssigned) bytes IsAssigned (after_name bytes) = leads_run is_name_byte bytes w.run (after_name bytes) w.are w.is w.outside assigned_outside in
@@ -256,53 +211,31 @@ pub named_of : (bytes : List ℕ) → begins is_name_start bytes ≡ true → Na
 named_of [] start = absurd (false≢true start)
 named_of (b ∷ bytes) start = named_cons b bytes start
 
-module _ (bytes : List ℕ) (start : begins is_name_start bytes ≡ true) where
-  pub attribute_stops_equals : (n : ℕ) → StopsAt (IsMarkup (codes " =")) (after_name bytes) n → StopsAt (Any IsAttribute) bytes n
-  attribute_stops_equals n s = same_attribute bytes n ((named_of bytes start).leads.stops n (stops_here (after_name bytes) n (codes "''") quoted_one s))
+pub attribute_stops : {bytes behind : List ℕ} {n : ℕ} → begins is_name_start bytes ≡ true → behind ≡ after_name bytes → StopsAt IsAssigned behind n → StopsAt (Any IsAttribute) bytes n
+attribute_stops {bytes = bytes} {n = n} start e s = same_attribute bytes n ((named_of bytes start).leads.stops n (subst (λ t. StopsAt IsAssigned t n) e s))
 
-  pub attribute_stops_value : (rest : List ℕ) (n : ℕ) → Reads (IsMarkup (codes " =")) (after_name bytes) rest → StopsAt IsQuoted rest n → StopsAt (Any IsAttribute) bytes n
-  attribute_stops_value rest n reads s = same_attribute bytes n ((named_of bytes start).leads.stops n ((leads_first (after_name bytes) rest (free_markup (codes " =") refl) reads).stops n s))
-
-  pub attribute_reads : (rest last behind : List ℕ) (place : ℕ) (namespace : Bool) → place < 2 → namespace ≡ is_xmlns (named_of bytes start).name → Reads (IsMarkup (codes " =")) (after_name bytes) rest
-      → Reads (Opens place) rest last → Reads (IsValue (quote_at place)) last behind → ReadsAttribute bytes namespace behind
-  attribute_reads rest last behind place namespace within is equals opens value =
-      let named = named_of bytes start in
-      let quoted = opens.front ++ value.front in
-      record {
-        name = named.name;
-        attribute = named.name ++ (equals.front ++ quoted);
-        are = named.are ∙ ap (λ t. named.name ++ t) (equals.are ∙ ap (λ t. equals.front ++ t) (opens.are ∙ ap (λ t. opens.front ++ t) value.are ∙ sym (append_assoc opens.front value.front behind)) ∙ sym (append_assoc equals.front quoted behind)) ∙ sym (append_assoc named.name (equals.front ++ quoted) behind);
-        is = record {
-          rest = equals.front ++ quoted;
-          are = refl;
-          name_is = named.is;
-          value = record { front = equals.front; back = quoted; are = refl; first = equals.is; second = (place, within, record { front = opens.front; back = value.front; are = refl; first = opens.is; second = value.is }) };
-        };
-        namespace_is = is;
-      }
+pub attribute_reads : {bytes behind last : List ℕ} (n : Named bytes) (namespace : Bool) → bytes ≡ n.name ++ behind → namespace ≡ is_xmlns n.name → Reads IsAssigned behind last → ReadsAttribute bytes namespace last
+attribute_reads {last = last} n namespace are is r = record {
+  name = n.name;
+  attribute = n.name ++ r.front;
+  are = are ∙ ap (λ t. n.name ++ t) r.are ∙ sym (append_assoc n.name r.front last);
+  is = record { rest = r.front; are = refl; name_is = n.is; value = r.is };
+  namespace_is = is;
+}
 
 -- an attribute has one name, and begins no other
 assigned_free : IsPrefixFree IsAssigned
-assigned_free x y r s a b e =
-    let ex : x ++ r ≡ a.front ++ (a.back ++ r) = ap (λ t. t ++ r) a.are ∙ append_assoc a.front a.back r in
-    let ey : y ++ s ≡ b.front ++ (b.back ++ s) = ap (λ t. t ++ s) b.are ∙ append_assoc b.front b.back s in
-    let whole = sym ex ∙ e ∙ ey in
-    let same = free_markup (codes " =") refl a.front b.front (a.back ++ r) (b.back ++ s) a.first b.first whole in
-    let next = free_quoted a.back b.back r s a.second b.second (behind_same a.front b.front (a.back ++ r) (b.back ++ s) same whole) in
-    a.are ∙ ap (λ f. f ++ a.back) same ∙ ap (λ k. b.front ++ k) next ∙ sym b.are
+assigned_free = then_free (free_markup (codes " =") refl) free_quoted
 
-pub attribute_once : (m n x y r s : List ℕ) → IsAttribute m x → IsAttribute n y → x ++ r ≡ y ++ s → (m ≡ n) × (x ≡ y)
+abbrev attribute_parts : (name x : List ℕ) → IsAttribute name x → Then (IsRun is_name_byte) IsAssigned x
+attribute_parts name x a = record { front = name; back = a.rest; are = a.are; first = a.name_is.bytes; second = a.value }
+
+pub attribute_once : IsOnce IsAttribute
 attribute_once m n x y r s a b e =
-    let oa = assigned_outside a.rest a.value in
-    let ob = assigned_outside b.rest b.value in
-    let ex : x ++ r ≡ m ++ (a.rest ++ r) = ap (λ t. t ++ r) a.are ∙ append_assoc m a.rest r in
-    let ey : y ++ s ≡ n ++ (b.rest ++ s) = ap (λ t. t ++ s) b.are ∙ append_assoc n b.rest s in
-    let whole = sym ex ∙ e ∙ ey in
-    let fx : m ++ (a.rest ++ r) ≡ m ++ oa.0 ∷ (oa.1 ++ r) = ap (λ t. m ++ (t ++ r)) oa.2 in
-    let fy : n ++ (b.rest ++ s) ≡ n ++ ob.0 ∷ (ob.1 ++ s) = ap (λ t. n ++ (t ++ s)) ob.2 in
-    let once = run_once is_name_byte m n oa.0 ob.0 (oa.1 ++ r) (ob.1 ++ s) a.name_is.bytes b.name_is.bytes oa.3 ob.3 (sym fx ∙ whole ∙ fy) in
-    let next = assigned_free a.rest b.rest r s a.value b.value (behind_same m n (a.rest ++ r) (b.rest ++ s) once.0 whole) in
-    (once.0, a.are ∙ ap (λ f. f ++ a.rest) once.0 ∙ ap (λ k. n ++ k) next ∙ sym b.are)
+    let pa = attribute_parts m x a in
+    let pb = attribute_parts n y b in
+    let same = run_parts is_name_byte r s pa pb (assigned_outside a.rest a.value) (assigned_outside b.rest b.value) e in
+    (same.0, parts_same pa pb same.0 (assigned_free a.rest b.rest r s a.value b.value same.1))
 
 -- ---- all attributes
 
@@ -315,7 +248,7 @@ or_true true = refl
 or_true false = refl
 
 end_one : IsMarkup (codes " >") (codes ">")
-end_one = record { front = []; back = codes ">"; are = refl; first = refl; second = record { front = codes ">"; back = []; are = refl; first = refl; second = refl } }
+end_one = joined [] (codes ">") refl (joined (codes ">") [] refl refl)
 
 rest_one : (seen : Bool) → IsAttributes seen (codes " xmlns=''>")
 rest_one seen = goes (codes " ") (codes "xmlns") (codes "xmlns=''") (codes ">") refl refl xmlns_one (ends (or_true seen) end_one) refl
@@ -347,52 +280,35 @@ IsOpen seen dark = seen ≡ true → BeginsOtherwise 62 dark
 elsewhere_end : (seen : Bool) (dark : List ℕ) → IsOpen seen dark → IsElsewhere (λ x. (seen ≡ true) × (x ≡ codes ">")) dark
 elsewhere_end seen dark going p q r d e = elsewhere_byte 62 dark p q r [] (going d.0) d.1 e
 
-swap_sides : {A B : Type 0} → A ⊎ B → B ⊎ A
-swap_sides (inl a) = inr a
-swap_sides (inr b) = inl b
-
-to_dark : (seen : Bool) (x : List ℕ) → ((name : List ℕ) × (IsAttribute name ▸ IsAttributes (seen || is_xmlns name)) x) ⊎ ((seen ≡ true) × (x ≡ codes ">")) → IsDark seen x
-to_dark seen x h = swap_sides h
-
 attribute_part : (seen : Bool) (dark : List ℕ) (n : ℕ) → StopsAt (Any IsAttribute) dark n → StopsAt (λ x. (name : List ℕ) × (IsAttribute name ▸ IsAttributes (seen || is_xmlns name)) x) dark n
-attribute_part seen dark n s = record {
-  front = s.front;
-  rest = s.rest;
-  are = s.are;
-  left_is = s.left_is;
-  begins = (s.begins.0 ++ codes " xmlns=''>", (s.begins.1.0, record { front = s.front ++ s.begins.0; back = codes " xmlns=''>"; are = sym (append_assoc s.front s.begins.0 (codes " xmlns=''>")); first = s.begins.1.1; second = rest_one (seen || is_xmlns s.begins.1.0) }));
-  apart = λ p q r d e.
-      let t = d.1 in
-      ⊎_elim
-      (λ h.
-      let none : Any IsAttribute (t.front ++ []) = subst (Any IsAttribute) (sym (append-nil t.front)) (d.0, t.first) in
-      let there : dark ≡ t.front ++ (h.0 ++ r) = e ∙ ap (λ t. t ++ r) h.1 ∙ append_assoc t.front h.0 r in
-      absurd ((s.apart t.front [] (h.0 ++ r) none there).1 refl))
-      (λ h.
-      let far = s.apart p (h.0 ∷ h.1) r (subst (Any IsAttribute) h.2 (d.0, t.first)) e in
-      (far.0, no_cons q h.0 (h.1 ++ t.back) h.3))
-      (compare p t.front q t.back t.are);
-}
+attribute_part seen dark n s =
+    stops_prefix dark n (λ x h. (h.1.front, h.1.back, h.1.are, (h.0, h.1.first)))
+    (λ x a. (codes " xmlns=''>", (a.0, joined x (codes " xmlns=''>") a.1 (rest_one (seen || is_xmlns a.0))))) s
 
--- a stop in an attribute
-pub attributes_stop : (seen : Bool) (rest white dark : List ℕ) (n : ℕ) → rest ≡ white ++ dark → IsWhite white → begins is_white white ≡ true → IsOutside is_white dark → IsOpen seen dark → StopsAt (Any IsAttribute) dark n
-    → StopsAt (IsAttributes seen) rest n
-attributes_stop seen rest white dark n are is some_white outside going s =
-    let part = attribute_part seen dark n s in
-    let stop = stops_beside dark n (elsewhere_end seen dark going) part in
-    let run = (leads_run is_white rest white dark are is outside (dark_outside seen)).stops n (stops_same dark n (to_dark seen) (λ x h. swap_sides h) stop) in
+-- white bytes, and what stands behind them
+dark_attributes : (seen : Bool) (white x : List ℕ) → IsWhite white → begins is_white white ≡ true → IsDark seen x → IsAttributes seen (white ++ x)
+dark_attributes seen white x is some_white (inl h) = ends h.0 (joined white x is (nothing_behind x h.1))
+dark_attributes seen white x is some_white (inr h) = goes white h.0 h.1.front h.1.back is some_white h.1.first h.1.second (ap (λ t. white ++ t) h.1.are)
+
+-- a stop behind white bytes
+stop_behind_white : (seen : Bool) (rest white dark : List ℕ) (n : ℕ) → rest ≡ white ++ dark → IsWhite white → begins is_white white ≡ true → IsOutside is_white dark → StopsAt (IsDark seen) dark n → StopsAt (IsAttributes seen) rest n
+stop_behind_white seen rest white dark n are is some_white outside s =
+    let run = (leads_run is_white rest white dark are is outside (dark_outside seen)).stops n s in
     record {
       front = white ++ s.front;
       rest = s.rest;
       are = are ∙ ap (λ t. white ++ t) s.are ∙ sym (append_assoc white s.front s.rest);
       left_is = s.left_is;
-      begins = (
-        s.begins.0 ++ codes " xmlns=''>",
-        goes white s.begins.1.0 (s.front ++ s.begins.0) (codes " xmlns=''>") is some_white s.begins.1.1 (rest_one (seen || is_xmlns s.begins.1.0))
-            (append_assoc white s.front (s.begins.0 ++ codes " xmlns=''>") ∙ ap (λ t. white ++ t) (sym (append_assoc s.front s.begins.0 (codes " xmlns=''>")))),
-      );
+      begins = (s.begins.0, subst (IsAttributes seen) (sym (append_assoc white s.front s.begins.0)) (dark_attributes seen white (s.front ++ s.begins.0) is some_white s.begins.1));
       apart = λ p q r d e. run.apart p q r (dark_run seen (p ++ q) d) e;
     }
+
+-- a stop in an attribute
+pub attributes_stop : (seen : Bool) (rest white dark : List ℕ) (n : ℕ) → rest ≡ white ++ dark → IsWhite white → begins is_white white ≡ true → IsOutside is_white dark → IsOpen seen dark → StopsAt (Any IsAttribute) dark n
+    → StopsAt (IsAttributes seen) rest n
+attributes_stop seen rest white dark n are is some_white outside going s =
+    stop_behind_white seen rest white dark n are is some_white outside
+    (stops_same dark n (λ x. flipped) (λ x. flipped) (stops_beside dark n (elsewhere_end seen dark going) (attribute_part seen dark n s)))
 
 -- an attribute, and what follows it
 dark_after : (seen : Bool) (name attribute : List ℕ) → IsAttribute name attribute → After (IsDark seen) attribute (IsAttributes (seen || is_xmlns name))
@@ -417,20 +333,7 @@ pub attributes_behind : (seen : Bool) (rest white dark behind : List ℕ) (n : �
     → StopsAt (IsAttributes (seen || namespace)) behind n → StopsAt (IsAttributes seen) rest n
 attributes_behind seen rest white dark behind n namespace are is some_white outside a s =
     let there : StopsAt (IsAttributes (seen || is_xmlns a.name)) behind n = subst (λ t. StopsAt (IsAttributes (seen || t)) behind n) a.namespace_is s in
-    let stop = (after_leads dark a.attribute behind a.are (dark_after seen a.name a.attribute a.is)).stops n there in
-    let run = (leads_run is_white rest white dark are is outside (dark_outside seen)).stops n stop in
-    record {
-      front = white ++ (a.attribute ++ there.front);
-      rest = there.rest;
-      are = are ∙ ap (λ t. white ++ t) (a.are ∙ ap (λ t. a.attribute ++ t) there.are ∙ sym (append_assoc a.attribute there.front there.rest)) ∙ sym (append_assoc white (a.attribute ++ there.front) there.rest);
-      left_is = there.left_is;
-      begins = (
-        there.begins.0,
-        goes white a.name a.attribute (there.front ++ there.begins.0) is some_white a.is there.begins.1
-            (append_assoc white (a.attribute ++ there.front) there.begins.0 ∙ ap (λ t. white ++ t) (append_assoc a.attribute there.front there.begins.0)),
-      );
-      apart = λ p q r d e. run.apart p q r (dark_run seen (p ++ q) d) e;
-    }
+    stop_behind_white seen rest white dark n are is some_white outside ((after_leads dark a.attribute behind a.are (dark_after seen a.name a.attribute a.is)).stops n there)
 
 apart_dark : (seen : Bool) (rest p q r : List ℕ) → IsOutside is_white rest → IsOpen seen rest → IsAttributes seen (p ++ q) → rest ≡ p ++ r → (length rest ≤ length r) × (q ≢ [])
 apart_dark seen rest [] [] r outside going d e = absurd (nothing (dark_run seen [] d)) where
@@ -495,7 +398,7 @@ pub along_end : (bytes : List ℕ) (seen : Bool) (rest white dark behind : List 
 along_end bytes seen rest white dark behind along are is seen_is e = record {
   front = along.front ++ (white ++ codes ">");
   are = along.are ∙ ap (λ t. along.front ++ t) (are ∙ ap (λ t. white ++ t) e ∙ sym (append_assoc white (codes ">") behind)) ∙ sym (append_assoc along.front (white ++ codes ">") behind);
-  is = along.into (white ++ codes ">") (ends seen_is (record { front = white; back = codes ">"; are = refl; first = is; second = record { front = codes ">"; back = []; are = refl; first = refl; second = refl } }));
+  is = along.into (white ++ codes ">") (ends seen_is (joined white (codes ">") is (joined (codes ">") [] refl refl)));
 }
 
 begins_run : (white : List ℕ) → IsWhite white → (length white ≡ 0 → ⊥) → begins is_white white ≡ true

@@ -7,6 +7,7 @@ use Rattle.std.specs.List.{list_all}
 use Rattle.lti_outside.proofs.BoolLemmas.{and_split, or_split}
 use Rattle.pox_outcomes.specs.Language.{StopsAt, Reads}
 use Rattle.pox_outcomes.specs.Characters.{is_within, IsByteIn, IsRow, row_at, rows, IsCharacter, behind, BeginsBeside, are_ranges}
+use Rattle.pox_outcomes.proofs.SequenceLemmas.{then_free}
 use Rattle.pox_outcomes.proofs.LanguageLemmas.{IsPrefixFree, Leads, leads_first, leads_then, no_cons}
 
 range_free : (range : ℕ × ℕ) → IsPrefixFree (IsByteIn range)
@@ -27,14 +28,7 @@ row_one (range ∷ row) are =
 
 pub free_row : (row : List (ℕ × ℕ)) → IsPrefixFree (IsRow row)
 free_row [] = λ x y r s a c e. a ∙ sym c
-free_row (range ∷ row) = λ x y r s a c e.
-    let ea : x ++ r ≡ a.first.0 ∷ (a.back ++ r) = ap (λ t. t ++ r) (a.are ∙ ap (λ t. t ++ a.back) a.first.1) in
-    let ec : y ++ s ≡ c.first.0 ∷ (c.back ++ s) = ap (λ t. t ++ s) (c.are ∙ ap (λ t. t ++ c.back) c.first.1) in
-    let whole : a.first.0 ∷ (a.back ++ r) ≡ c.first.0 ∷ (c.back ++ s) = sym ea ∙ e ∙ ec in
-    let head : a.first.0 ≡ c.first.0 = cc in
-    let tails : a.back ++ r ≡ c.back ++ s = cc in
-    let front : a.front ≡ c.front = a.first.1 ∙ ap (λ b. b ∷ []) head ∙ sym c.first.1 in
-    a.are ∙ ap (λ t. t ++ a.back) front ∙ ap (λ t. c.front ++ t) (free_row row a.back c.back r s a.second c.second tails) ∙ sym c.are
+free_row (range ∷ row) = then_free (range_free range) (free_row row)
 
 -- ---- the loop over a row
 
@@ -85,6 +79,11 @@ going_stops row bytes rest at within fails going =
     let step = at_step row at within in
     going.leads.stops (length rest) (subst (λ t. StopsAt (IsRow t) rest (length rest)) (sym step) (stops_range range m rest (subst (λ t. are_ranges t ≡ true) step going.are) fails))
 
+pub row_passes : (P : List (ℕ × ℕ) → Bool) (table : List (List (ℕ × ℕ))) (at : ℕ) → at < length table → list_all P table ≡ true → P (row_at table at) ≡ true
+row_passes P [] at within all = absurd (omega arith)
+row_passes P (row ∷ table) zero within all = (and_split (P row) (list_all P table) all).0
+row_passes P (row ∷ table) (suc at) within all = row_passes P table at (omega (arith, within)) (and_split (P row) (list_all P table) all).1
+
 pub ranges_at : (table : List (List (ℕ × ℕ))) (at : ℕ) → list_all are_ranges table ≡ true → are_ranges (row_at table at) ≡ true
 ranges_at [] at all = refl
 ranges_at (row ∷ table) zero all = (and_split (are_ranges row) (list_all are_ranges table) all).0
@@ -127,19 +126,13 @@ abbrev are_rows : List (List (ℕ × ℕ)) → Bool
 are_rows [] = true
 are_rows (row ∷ rest) = list_all (λ other. rows_differ row other) rest && are_rows rest
 
-row_differs : (row : List (ℕ × ℕ)) (rest : List (List (ℕ × ℕ))) (j : ℕ) → j < length rest → list_all (λ other. rows_differ row other) rest ≡ true → rows_differ row (row_at rest j) ≡ true
-row_differs row [] j within all = absurd (omega arith)
-row_differs row (other ∷ rest) zero within all = (and_split (rows_differ row other) (list_all (λ other. rows_differ row other) rest) all).0
-row_differs row (other ∷ rest) (suc j) within all =
-    row_differs row rest j (omega arith) (and_split (rows_differ row other) (list_all (λ other. rows_differ row other) rest) all).1
-
 rows_once : (rest : List (List (ℕ × ℕ))) → are_rows rest ≡ true → (i j : ℕ) → i < length rest → j < length rest → (x y r s : List ℕ) → IsRow (row_at rest i) x → IsRow (row_at rest j) y → x ++ r ≡ y ++ s → x ≡ y
 rows_once [] all i j li lj x y r s a d e = absurd (omega arith)
 rows_once (row ∷ rest) all zero zero li lj x y r s a d e = free_row row x y r s a d e
 rows_once (row ∷ rest) all zero (suc j) li lj x y r s a d e =
-    absurd (apart_rows row (row_at rest j) (row_differs row rest j (omega arith) (and_split (list_all (λ other. rows_differ row other) rest) (are_rows rest) all).0) x y r s a d e)
+    absurd (apart_rows row (row_at rest j) (row_passes (λ other. rows_differ row other) rest j (omega arith) (and_split (list_all (λ other. rows_differ row other) rest) (are_rows rest) all).0) x y r s a d e)
 rows_once (row ∷ rest) all (suc i) zero li lj x y r s a d e =
-    absurd (apart_rows row (row_at rest i) (row_differs row rest i (omega arith) (and_split (list_all (λ other. rows_differ row other) rest) (are_rows rest) all).0) y x s r d a (sym e))
+    absurd (apart_rows row (row_at rest i) (row_passes (λ other. rows_differ row other) rest i (omega arith) (and_split (list_all (λ other. rows_differ row other) rest) (are_rows rest) all).0) y x s r d a (sym e))
 rows_once (row ∷ rest) all (suc i) (suc j) li lj x y r s a d e =
     rows_once rest (and_split (list_all (λ other. rows_differ row other) rest) (are_rows rest) all).1 i j (omega arith) (omega arith) x y r s a d e
 
@@ -148,28 +141,15 @@ pub free_character : IsPrefixFree IsCharacter
 free_character x y r s a d e = rows_once rows refl a.0 d.0 a.1 d.1 x y r s a.2 d.2 e
 
 -- a row of at least one range
-abbrev pub IsNonempty : List (ℕ × ℕ) → Type 0
-IsNonempty [] = ⊥
-IsNonempty (range ∷ row) = Unit {0}
+abbrev pub is_nonempty : List (ℕ × ℕ) → Bool
+is_nonempty [] = false
+is_nonempty (range ∷ row) = true
 
-pub nonempty_at : (place : ℕ) → place < 13 → IsNonempty (row_at rows place)
-nonempty_at zero within = tt
-nonempty_at (suc zero) within = tt
-nonempty_at (suc (suc zero)) within = tt
-nonempty_at (suc (suc (suc zero))) within = tt
-nonempty_at (suc (suc (suc (suc zero)))) within = tt
-nonempty_at (suc (suc (suc (suc (suc zero))))) within = tt
-nonempty_at (suc (suc (suc (suc (suc (suc zero)))))) within = tt
-nonempty_at (suc (suc (suc (suc (suc (suc (suc zero))))))) within = tt
-nonempty_at (suc (suc (suc (suc (suc (suc (suc (suc zero)))))))) within = tt
-nonempty_at (suc (suc (suc (suc (suc (suc (suc (suc (suc zero))))))))) within = tt
-nonempty_at (suc (suc (suc (suc (suc (suc (suc (suc (suc (suc zero)))))))))) within = tt
-nonempty_at (suc (suc (suc (suc (suc (suc (suc (suc (suc (suc (suc zero))))))))))) within = tt
-nonempty_at (suc (suc (suc (suc (suc (suc (suc (suc (suc (suc (suc (suc zero)))))))))))) within = tt
-nonempty_at (suc (suc (suc (suc (suc (suc (suc (suc (suc (suc (suc (suc (suc place))))))))))))) within = absurd (omega arith)
+pub nonempty_at : (place : ℕ) → place < 13 → is_nonempty (row_at rows place) ≡ true
+nonempty_at place within = row_passes is_nonempty rows place within refl
 
-pub empty_row : (row : List (ℕ × ℕ)) → IsNonempty row → IsRow row [] → ⊥
-empty_row [] some_range is = some_range
+pub empty_row : (row : List (ℕ × ℕ)) → is_nonempty row ≡ true → IsRow row [] → ⊥
+empty_row [] some_range is = false≢true some_range
 empty_row (range ∷ row) some_range is =
     let whole : [] ≡ is.first.0 ∷ is.back = is.are ∙ ap (λ t. t ++ is.back) is.first.1 in
     absurd (cc)

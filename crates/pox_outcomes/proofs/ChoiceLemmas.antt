@@ -4,9 +4,10 @@ use Rattle.std.specs.List.{list_all}
 use Rattle.std.proofs.lemmas.Bool.{false≢true, cases_Bool, cases_lt}
 use Rattle.std.proofs.lemmas.Bool.Decides.{nat_tests}
 use Rattle.lti_outside.proofs.BoolLemmas.{and_split, or_split}
-use Rattle.pox_outcomes.specs.Language.{Then, StopsAt, Reads, IsAmong}
-use Rattle.pox_outcomes.specs.Markup.{is_white, IsWhite, IsMarkup, word_at, behind, begins_dark, is_plain, strip, first_of, rest_of, differ, are_words}
-use Rattle.pox_outcomes.proofs.LanguageLemmas.{Leads, after_leads, stops_either, stops_same, left-le, no_cons, compare}
+use Rattle.pox_outcomes.specs.Language.{Then, ◌▸◌, StopsAt, Reads, IsAmong, Any, IsOnce}
+use Rattle.pox_outcomes.specs.Markup.{is_white, IsWhite, IsMarkup, IsOneOf, word_at, behind, begins_dark, is_plain, strip, first_of, rest_of, differ, are_words}
+use Rattle.pox_outcomes.proofs.LanguageLemmas.{IsPrefixFree, Leads, after_leads, stops_either, stops_prefix, stops_same, left-le}
+use Rattle.pox_outcomes.proofs.SequenceLemmas.{Some, some_then, then_second, parts_even, backs_even, parts_same, behind_once}
 use Rattle.pox_outcomes.proofs.RunLemmas.{run_once}
 use Rattle.pox_outcomes.proofs.MarkupLemmas.{at_test, plain_space, plain_byte, plain_rest, outside_markup, markup_one, not_true, free_markup}
 
@@ -248,23 +249,92 @@ leads_choice A B most place bytes rest code within reads = after_leads bytes rea
 -- a stop at the choice
 pub stops_choice : (A B : ℕ → List ℕ → Type 0) (most : ℕ) (bytes : List ℕ) (n : ℕ) → ((place : ℕ) → place < most → (y : List ℕ) × B place y) → StopsAt (IsAmong A most) bytes n → StopsAt (IsChoice A most B) bytes n
 stops_choice A B most bytes n one s =
-    let found = s.begins.1 in
-    let more = one found.0 found.1 in
-    record {
-      front = s.front;
-      rest = s.rest;
-      are = s.are;
-      left_is = s.left_is;
-      begins = (s.begins.0 ++ more.0, (found.0, found.1, record { front = s.front ++ s.begins.0; back = more.0; are = sym (append_assoc s.front s.begins.0 more.0); first = found.2; second = more.1 }));
-      apart = λ p q r d e.
-          let t = d.2 in
-          ⊎_elim
-          (λ h.
-          let none : A d.0 (t.front ++ []) = subst (A d.0) (sym (append-nil t.front)) t.first in
-          let there : bytes ≡ t.front ++ (h.0 ++ r) = e ∙ ap (λ t. t ++ r) h.1 ∙ append_assoc t.front h.0 r in
-          absurd ((s.apart t.front [] (h.0 ++ r) (d.0, d.1, none) there).1 refl))
-          (λ h.
-          let far = s.apart p (h.0 ∷ h.1) r (d.0, d.1, subst (A d.0) h.2 t.first) e in
-          (far.0, no_cons q h.0 (h.1 ++ t.back) h.3))
-          (compare p t.front q t.back t.are);
-    }
+    stops_prefix bytes n (λ x h. (h.2.front, h.2.back, h.2.are, (h.0, h.1, h.2.first)))
+    (λ x a. let more = one a.0 a.1 in (more.0, (a.0, a.1, record { front = x; back = more.0; are = refl; first = a.2; second = more.1 }))) s
+
+-- a choice is of one value where what stands behind each set is
+pub choice_once : {V : Type 0} (A : ℕ → List ℕ → Type 0) (B : ℕ → V → List ℕ → Type 0) (most : ℕ) → IsCode A most → ((place : ℕ) → IsOnce (B place)) → IsOnce (λ v. IsChoice A most (λ place. B place v))
+choice_once A B most code once v w x y r s a b e =
+    let same = code a.0 b.0 a.1 b.1 a.2.front b.2.front (a.2.back ++ r) (b.2.back ++ s) a.2.first b.2.first (parts_even r s a.2 b.2 e) in
+    let there : B b.0 v a.2.back = subst (λ (k : ℕ). B k v a.2.back) same.0 a.2.second in
+    let next = once b.0 v w a.2.back b.2.back r s there b.2.second (backs_even r s a.2 b.2 same.1 e) in
+    (next.0, parts_same a.2 b.2 same.1 next.1)
+
+pub choice_free : (A B : ℕ → List ℕ → Type 0) (most : ℕ) → IsCode A most → ((place : ℕ) → IsPrefixFree (B place)) → IsPrefixFree (IsChoice A most B)
+choice_free A B most code free x y r s a b e = (choice_once {V = Unit {0}} A (λ place u. B place) most code (λ place u v x y r s a b e. (refl, free place x y r s a b e)) tt tt x y r s a b e).1
+
+-- ---- words of values
+
+module _ {V : Type 0} (words : List (List ℕ)) (all : are_words words ≡ true) (place : V → ℕ) (value : ℕ → V) (back : (v : V) → value (place v) ≡ v) (within : (v : V) → place v < length words) (at : (k : ℕ) → k < length words → place (value k) ≡ k) where
+  abbrev pub Coded : V → List ℕ → Type 0
+  Coded v = IsMarkup (word_at words (place v))
+
+  pub coded_once : IsOnce Coded
+  coded_once v w x y r s a b e = let same = code_words words all (place v) (place w) (within v) (within w) x y r s a b e in (sym (back v) ∙ ap value same.0 ∙ back w, same.1)
+
+  pub coded_stops : {bytes : List ℕ} {n : ℕ} → StopsAt (IsOneOf words (length words)) bytes n → StopsAt (Any Coded) bytes n
+  coded_stops {bytes = bytes} {n = n} s =
+      stops_same bytes n (λ x h. (value h.0, subst (λ (k : ℕ). IsMarkup (word_at words k) x) (sym (at h.0 h.1)) h.2)) (λ x h. (place h.0, within h.0, h.1)) s
+
+-- ---- one of two words, and what stands behind each
+
+-- a string of the set with nothing behind it
+pub nothing_behind : {A : List ℕ → Type 0} (x : List ℕ) → A x → (A ▸ (λ y. y ≡ [])) x
+nothing_behind x a = record { front = x; back = []; are = sym (append-nil x); first = a; second = refl }
+
+pub only_front : {A : List ℕ → Type 0} (x : List ℕ) → (A ▸ (λ y. y ≡ [])) x → A x
+only_front {A = A} x h = subst A (sym (h.are ∙ ap (λ t. h.front ++ t) h.second ∙ append-nil h.front)) h.first
+
+module _ {V : Type 0} (words : List (List ℕ)) (all : are_words words ≡ true) (two : length words ≡ 2) (B C : V → List ℕ → Type 0) where
+  abbrev pub Two : V → List ℕ → Type 0
+  Two v x = (IsMarkup (word_at words 0) ▸ B v) x ⊎ (IsMarkup (word_at words 1) ▸ C v) x
+
+  abbrev Words : ℕ → List ℕ → Type 0
+  Words place = IsMarkup (word_at words place)
+
+  abbrev Sides : ℕ → List ℕ → Type 0
+  Sides zero = Any B
+  Sides (suc place) = Any C
+
+  code_two : IsCode Words 2
+  code_two = subst (IsCode Words) two (code_words words all)
+
+  to_two : (place : ℕ) (x : List ℕ) → place < 2 → Then (Words place) (Sides place) x → Any Two x
+  to_two zero x within h = (h.second.0, inl (then_second h h.second.1))
+  to_two (suc zero) x within h = (h.second.0, inr (then_second h h.second.1))
+  to_two (suc (suc place)) x within h = absurd (omega arith)
+
+  from_two : (v : V) (x : List ℕ) → Two v x → IsChoice Words 2 Sides x
+  from_two v x (inl h) = (0, omega arith, then_second h (v, h.second))
+  from_two v x (inr h) = (1, omega arith, then_second h (v, h.second))
+
+  same_two : {bytes : List ℕ} {n : ℕ} → StopsAt (IsChoice Words 2 Sides) bytes n → StopsAt (Any Two) bytes n
+  same_two {bytes = bytes} {n = n} s = stops_same bytes n (λ x h. to_two h.0 x h.1 h.2) (λ x h. from_two h.0 x h.1) s
+
+  side_some : Some (Any B) → Some (Any C) → (place : ℕ) → Some (Sides place)
+  side_some b c zero = b
+  side_some b c (suc place) = c
+
+  -- neither word
+  pub two_here : Some (Any B) → Some (Any C) → {bytes : List ℕ} {n : ℕ} → StopsAt (IsOneOf words 2) bytes n → StopsAt (Any Two) bytes n
+  two_here b c {bytes = bytes} {n = n} s = same_two (stops_choice Words Sides 2 bytes n (λ place within. side_some b c place) s)
+
+  -- behind the first word, and behind the second
+  pub two_first : {bytes rest : List ℕ} {n : ℕ} → Reads (IsMarkup (word_at words 0)) bytes rest → StopsAt (Any B) rest n → StopsAt (Any Two) bytes n
+  two_first {bytes = bytes} {rest = rest} {n = n} r s = same_two ((leads_choice Words Sides 2 0 bytes rest code_two (omega arith) r).stops n s)
+
+  pub two_second : {bytes rest : List ℕ} {n : ℕ} → Reads (IsMarkup (word_at words 1)) bytes rest → StopsAt (Any C) rest n → StopsAt (Any Two) bytes n
+  two_second {bytes = bytes} {rest = rest} {n = n} r s = same_two ((leads_choice Words Sides 2 1 bytes rest code_two (omega arith) r).stops n s)
+
+  pub two_some : Some (Any B) → Some (Any Two)
+  two_some b = let t = some_then (markup_one (word_at words 0)) b in (t.0, to_two 0 t.0 (omega arith) t.1)
+
+  pub two_once : IsOnce B → IsOnce C → IsOnce Two
+  two_once b c v w x y r s (inl f) (inl g) e = behind_once (Words 0) B (λ x y r s a b e. (code_two 0 0 (omega arith) (omega arith) x y r s a b e).1) b v w x y r s f g e
+  two_once b c v w x y r s (inl f) (inr g) e =
+      let far = code_two 0 1 (omega arith) (omega arith) f.front g.front (f.back ++ r) (g.back ++ s) f.first g.first (parts_even r s f g e) in
+      absurd (omega (arith, far.0))
+  two_once b c v w x y r s (inr f) (inl g) e =
+      let far = code_two 1 0 (omega arith) (omega arith) f.front g.front (f.back ++ r) (g.back ++ s) f.first g.first (parts_even r s f g e) in
+      absurd (omega (arith, far.0))
+  two_once b c v w x y r s (inr f) (inr g) e = behind_once (Words 1) C (λ x y r s a b e. (code_two 1 1 (omega arith) (omega arith) x y r s a b e).1) c v w x y r s f g e

@@ -3,12 +3,13 @@ use Rattle.std.proofs.Common.{◌≡◌, ℕ, ◌-◌, ◌≤◌, ⊎_elim, true
 use Rattle.std.proofs.lemmas.List.{take_at, take-append-drop, length-take-le, length-drop}
 use Rattle.std.proofs.lemmas.Bool.{false≢true}
 use Rattle.std.proofs.lemmas.Bool.Decides.{nat_tests}
-use Rattle.pox_outcomes.specs.Language.{◌▸◌, StopsAt, Reads, Any}
+use Rattle.pox_outcomes.specs.Language.{StopsAt, Reads, Any, IsOnce}
 use Rattle.pox_outcomes.specs.Markup.{is_white, IsWhite}
+use Rattle.pox_outcomes.specs.Document.{DocumentOf}
 use Rattle.pox_outcomes.specs.BadAt.{IsBadAt}
 use Rattle.pox_outcomes.proofs.LanguageLemmas.{compare}
-use Rattle.pox_outcomes.proofs.RunLemmas.{IsOutside, run_no}
-use Rattle.pox_outcomes.proofs.TextLemmas.{behind_same}
+use Rattle.pox_outcomes.proofs.RunLemmas.{Front, run_no}
+use Rattle.pox_outcomes.proofs.SequenceLemmas.{behind_same}
 
 -- the white bytes of one run can't hold the first byte behind another
 not_white : (white : List ℕ) (b : ℕ) (t more back : List ℕ) → is_white b ≡ false → IsWhite back → (white ++ b ∷ t) ++ more ≡ back → ⊥
@@ -16,9 +17,9 @@ not_white white b t more back dark is e =
     run_no is_white white b (t ++ more) (subst IsWhite (sym (sym (append_assoc white (b ∷ t) more) ∙ e)) is) dark
 
 -- The strings of the family are documents of its values, and bytes begin with one of one value at most.
-module _ {V : Type 0} (D : V → List ℕ → Type 0) (once : (o p : V) (x y r s : List ℕ) → D o x → D p y → x ++ r ≡ y ++ s → (o ≡ p) × (x ≡ y)) where
+module _ {V : Type 0} (D : V → List ℕ → Type 0) (once : IsOnce D) where
   abbrev Of : List ℕ → V → Type 0
-  Of bytes v = (D v ▸ IsWhite) bytes
+  Of = DocumentOf D
 
   pub document_once : (bytes : List ℕ) (o p : V) → Of bytes o → Of bytes p → o ≡ p
   document_once bytes o p a b = (once o p a.front b.front a.back b.back a.first b.first (sym a.are ∙ b.are)).0
@@ -52,7 +53,7 @@ module _ {V : Type 0} (D : V → List ℕ → Type 0) (once : (o p : V) (x y r s
             omega (arith, least, rest, at_is, within))
             (compare (take n bytes) d.front more d.back d.are)
 
-  pub bad_end : (bytes rest white : List ℕ) (b : ℕ) (t : List ℕ) (o : V) (at : ℕ) → Reads (D o) bytes rest → rest ≡ white ++ b ∷ t → IsWhite white → is_white b ≡ false → at ≡ length bytes - length (b ∷ t) → IsBadAt Of bytes at
+  bad_end : (bytes rest white : List ℕ) (b : ℕ) (t : List ℕ) (o : V) (at : ℕ) → Reads (D o) bytes rest → rest ≡ white ++ b ∷ t → IsWhite white → is_white b ≡ false → at ≡ length bytes - length (b ∷ t) → IsBadAt Of bytes at
   bad_end bytes rest white b t o at reads are is dark at_is =
       let whole : bytes ≡ (reads.front ++ white) ++ b ∷ t = reads.are ∙ ap (λ k. reads.front ++ k) are ∙ sym (append_assoc reads.front white (b ∷ t)) in
       let long = ap length whole ∙ length-append (reads.front ++ white) (b ∷ t) in
@@ -95,21 +96,18 @@ module _ {V : Type 0} (D : V → List ℕ → Type 0) (once : (o p : V) (x y r s
                 let dark_too : is_white c ≡ false = ap is_white (sym head) ∙ dark in
                 absurd (not_white white c m more d.back dark_too d.second (append_assoc white (c ∷ m) more ∙ behind))
 
-  pub good_end : (bytes rest white : List ℕ) (o : V) → Reads (D o) bytes rest → rest ≡ white → IsWhite white → Of bytes o
-  good_end bytes rest white o reads are is = record { front = reads.front; back = rest; are = reads.are; first = reads.is; second = subst IsWhite (sym are) is }
+  pub bad_rest : {bytes rest dark : List ℕ} (o : V) (at : ℕ) → Reads (D o) bytes rest → Front is_white rest dark → (length dark == 0) ≡ false → at ≡ length bytes - length dark → IsBadAt Of bytes at
+  bad_rest {dark = []} o at reads w long at_is = absurd (false≢true (sym long))
+  bad_rest {bytes = bytes} {rest = rest} {dark = b ∷ t} o at reads w long at_is = bad_end bytes rest w.run b t o at reads w.are w.is w.outside at_is
 
-  pub bad_rest : (bytes rest white dark : List ℕ) (o : V) (at : ℕ) → Reads (D o) bytes rest → rest ≡ white ++ dark → IsWhite white → IsOutside is_white dark → (length dark == 0) ≡ false → at ≡ length bytes - length dark → IsBadAt Of bytes at
-  bad_rest bytes rest white [] o at reads are is outside long at_is = absurd (false≢true (sym long))
-  bad_rest bytes rest white (b ∷ t) o at reads are is outside long at_is = bad_end bytes rest white b t o at reads are is outside at_is
-
-  pub good_rest : (bytes rest white dark : List ℕ) (o : V) → Reads (D o) bytes rest → rest ≡ white ++ dark → IsWhite white → (length dark == 0) ≡ true → Of bytes o
-  good_rest bytes rest white [] o reads are is none = good_end bytes rest white o reads (are ∙ append-nil white) is
-  good_rest bytes rest white (b ∷ t) o reads are is none =
+  pub good_rest : {bytes rest dark : List ℕ} (o : V) → Reads (D o) bytes rest → Front is_white rest dark → (length dark == 0) ≡ true → Of bytes o
+  good_rest {rest = rest} {dark = []} o reads w none = record { front = reads.front; back = rest; are = reads.are; first = reads.is; second = subst IsWhite (sym (w.are ∙ append-nil w.run)) w.is }
+  good_rest {dark = b ∷ t} o reads w none =
       let long : (length (b ∷ t) == 0) ≡ false = grind (arith, nat_tests) in
       absurd (false≢true (sym long ∙ none))
 
-  pub rest_le : (bytes rest white dark : List ℕ) (o : V) → Reads (D o) bytes rest → rest ≡ white ++ dark → length dark ≤ length bytes
-  rest_le bytes rest white dark o reads are =
+  pub rest_le : {bytes rest dark : List ℕ} (o : V) → Reads (D o) bytes rest → Front is_white rest dark → length dark ≤ length bytes
+  rest_le {rest = rest} {dark = dark} o reads w =
       let one = ap length reads.are ∙ length-append reads.front rest in
-      let two = ap length are ∙ length-append white dark in
+      let two = ap length w.are ∙ length-append w.run dark in
       omega (arith, one, two)

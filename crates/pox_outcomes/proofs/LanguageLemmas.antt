@@ -1,8 +1,10 @@
 -- Sets of byte strings: what stands behind a string, and where reading stops.
-use Rattle.std.proofs.Common.{◌≡◌, ◌≢◌, ℕ, ◌<◌, ◌≤◌, ◌⊎◌, inl, inr, ⊎_elim, List, [], ◌∷◌, ◌++◌, length, min, append_assoc, append-nil, refl, sym, ap, ◌∙◌, subst, arith, length-append}
+use Rattle.std.proofs.Common.{◌≡◌, ◌≢◌, ℕ, ◌<◌, ◌≤◌, ◌⊎◌, inl, inr, ⊎_elim, Bool, true, List, [], ◌∷◌, ◌++◌, length, min, append_assoc, append-nil, refl, sym, ap, ◌∙◌, subst, arith, length-append}
 use Rattle.std.proofs.lemmas.List.{append_cancel_left}
-use Rattle.std.proofs.lemmas.Bool.{cases_lt}
+use Rattle.std.proofs.lemmas.Bool.{false≢true, cases_lt}
 use Rattle.pox_outcomes.specs.Language.{Then, StopsAt, Reads}
+use Rattle.pox_outcomes.specs.Markup.{BeginsOtherwise}
+use Rattle.pox_outcomes.specs.Characters.{begins}
 
 -- no string of the set begins another
 abbrev pub IsPrefixFree : (List ℕ → Type 0) → Type 0
@@ -53,26 +55,6 @@ after_then {A = A} {B = B} x free a = record {
       (l.back, l.are ∙ ap (λ t. t ++ l.back) same, l.second);
 }
 
--- a stop in the first part
-pub stops_here : {A B : List ℕ → Type 0} (bytes : List ℕ) (n : ℕ) (y : List ℕ) → B y → StopsAt A bytes n → StopsAt (Then A B) bytes n
-stops_here {A = A} {B = B} bytes n y b s = record {
-  front = s.front;
-  rest = s.rest;
-  are = s.are;
-  left_is = s.left_is;
-  begins = (s.begins.0 ++ y, record { front = s.front ++ s.begins.0; back = y; are = sym (append_assoc s.front s.begins.0 y); first = s.begins.1; second = b });
-  apart = λ p q r d e.
-      ⊎_elim
-      (λ h.
-      let none : A (d.front ++ []) = subst A (sym (append-nil d.front)) d.first in
-      let there : bytes ≡ d.front ++ (h.0 ++ r) = e ∙ ap (λ t. t ++ r) h.1 ∙ append_assoc d.front h.0 r in
-      absurd ((s.apart d.front [] (h.0 ++ r) none there).1 refl))
-      (λ h.
-      let found = s.apart p (h.0 ∷ h.1) r (subst A h.2 d.first) e in
-      (found.0, no_cons q h.0 (h.1 ++ d.back) h.3))
-      (compare p d.front q d.back d.are);
-}
-
 -- each string of L begins with one of A, and each one of A begins one of L
 pub stops_prefix : {A L : List ℕ → Type 0} (bytes : List ℕ) (n : ℕ) → ((x : List ℕ) → L x → (f g : List ℕ) × (x ≡ f ++ g) × A f) → ((x : List ℕ) → A x → (y : List ℕ) × L (x ++ y)) → StopsAt A bytes n → StopsAt L bytes n
 stops_prefix {A = A} {L = L} bytes n split more s =
@@ -95,6 +77,10 @@ stops_prefix {A = A} {L = L} bytes n split more s =
           (found.0, no_cons q h.0 (h.1 ++ c.1) h.3))
           (compare p c.0 q c.1 c.2);
     }
+
+-- a stop in the first part
+pub stops_here : {A B : List ℕ → Type 0} (bytes : List ℕ) (n : ℕ) (y : List ℕ) → B y → StopsAt A bytes n → StopsAt (Then A B) bytes n
+stops_here bytes n y b s = stops_prefix bytes n (λ x h. (h.front, h.back, h.are, h.first)) (λ x a. (y, record { front = x; back = y; are = refl; first = a; second = b })) s
 
 within : (n : ℕ) (front rest back : List ℕ) (bytes : List ℕ) → n ≡ length back → rest ≡ front ++ back → (c : ℕ) (m r : List ℕ) → r ≡ c ∷ (m ++ rest) → n ≤ length r
 within n front rest back bytes is are c m r e =
@@ -173,12 +159,16 @@ stops_same bytes n to from s = record {
 pub leads_first : {A B : List ℕ → Type 0} (bytes rest : List ℕ) → IsPrefixFree A → Reads A bytes rest → Leads (Then A B) bytes B rest
 leads_first bytes rest free reads = after_leads bytes reads.front rest reads.are (after_then reads.front free reads.is)
 
-pub reads_then : {A B : List ℕ → Type 0} (bytes rest last : List ℕ) → Reads A bytes rest → Reads B rest last → Reads (Then A B) bytes last
-reads_then bytes rest last a b = record {
+pub reads_then : {A B : List ℕ → Type 0} {bytes rest last : List ℕ} → Reads A bytes rest → Reads B rest last → Reads (Then A B) bytes last
+reads_then {last = last} a b = record {
   front = a.front ++ b.front;
   are = a.are ∙ ap (λ t. a.front ++ t) b.are ∙ sym (append_assoc a.front b.front last);
   is = record { front = a.front; back = b.front; are = refl; first = a.is; second = b.is };
 }
+
+-- a string of one set is one of the other
+pub reads_as : {A B : List ℕ → Type 0} {bytes rest : List ℕ} → ((x : List ℕ) → A x → B x) → Reads A bytes rest → Reads B bytes rest
+reads_as to r = record { front = r.front; are = r.are; is = to r.front r.is }
 
 stops_first : {A B : List ℕ → Type 0} (bytes : List ℕ) (n m : ℕ) → n ≤ m → StopsAt A bytes n → StopsAt B bytes m → StopsAt (λ x. A x ⊎ B x) bytes n
 stops_first {A = A} {B = B} bytes n m least a b = record {
@@ -191,7 +181,7 @@ stops_first {A = A} {B = B} bytes n m least a b = record {
       ⊎_elim (λ d. a.apart p q r d e) (λ d. let far = b.apart p q r d e in (omega (arith, far.0), far.1)) d;
 }
 
-flipped : {A B : Type 0} → A ⊎ B → B ⊎ A
+pub flipped : {A B : Type 0} → A ⊎ B → B ⊎ A
 flipped (inl a) = inr a
 flipped (inr b) = inl b
 
@@ -224,3 +214,14 @@ stops_beside {A = A} {B = B} bytes n beside a = record {
       (omega (arith, most, same), far.1))
       d;
 }
+
+-- ---- the first byte
+
+pub first_byte : (P : ℕ → Bool) (x : List ℕ) → begins P x ≡ true → (b : ℕ) × (t : List ℕ) × (x ≡ b ∷ t) × (P b ≡ true)
+first_byte P [] e = absurd (false≢true e)
+first_byte P (b ∷ t) e = (b, t, refl, e)
+
+pub elsewhere_byte : (b : ℕ) (bytes p q r t : List ℕ) → BeginsOtherwise b bytes → p ++ q ≡ b ∷ t → bytes ≡ p ++ r → (p ≡ []) × (q ≢ [])
+elsewhere_byte b bytes [] q r t other e is = (refl, no_cons q b t e)
+elsewhere_byte b [] (c ∷ p) q r t other e is = absurd (cc)
+elsewhere_byte b (d ∷ bytes) (c ∷ p) q r t other e is = absurd (other cc)

@@ -1,4 +1,5 @@
 pub mod LanguageLemmas
+pub mod SequenceLemmas
 pub mod RunLemmas
 pub mod MarkupLemmas
 pub mod ChoiceLemmas
@@ -8,6 +9,7 @@ pub mod ReferenceLemmas
 pub mod CarriedLemmas
 pub mod TextLemmas
 pub mod Utf8Lemmas
+pub mod TagLemmas
 pub mod LeafLemmas
 pub mod ScoreLemmas
 pub mod ElementLemmas
@@ -15,9 +17,10 @@ pub mod BodyLemmas
 pub mod OptionalFrontLemmas
 pub mod OptionalLemmas
 pub mod DetailsLemmas
-pub mod AnswerLemmas
 pub mod AttributeLemmas
 pub mod DeclarationLemmas
+pub mod HeadLemmas
+pub mod AnswerLemmas
 pub mod RequestLemmas
 pub mod DocumentLemmas
 pub mod EndLemmas

@@ -6,7 +6,7 @@ use Rattle.lti_outside.proofs.BoolLemmas.{and_split}
 use Rattle.pox_outcomes.specs.Language.{Then, StopsAt, Reads}
 use Rattle.pox_outcomes.specs.Markup.{is_white, IsWhite, IsMarkup, begins_dark, is_plain, after_white, BeginsOtherwise}
 use Rattle.pox_outcomes.proofs.LanguageLemmas.{IsPrefixFree, Leads, leads_first, leads_then}
-use Rattle.pox_outcomes.proofs.RunLemmas.{IsOutside, BeginsOutside, leads_run, free_run}
+use Rattle.pox_outcomes.proofs.RunLemmas.{BeginsOutside, Front, front_of, leads_run, free_run}
 
 pub not_true : (t : Bool) → not t ≡ true → t ≡ false
 not_true true e = absurd (false≢true e)
@@ -14,24 +14,11 @@ not_true false e = refl
 
 -- ---- white bytes in front
 
-pub record White (bytes : List ℕ) : Type 0 where
-  pub run : List ℕ
-  pub are : bytes ≡ run ++ after_white bytes
-  pub is : IsWhite run
-  pub outside : IsOutside is_white (after_white bytes)
+pub white_of : (bytes : List ℕ) → Front is_white bytes (after_white bytes)
+white_of bytes = front_of is_white after_white refl (λ b t. refl) bytes
 
-white_cons : (t : Bool) (b : ℕ) (bytes : List ℕ) → is_white b ≡ t → White bytes → White (b ∷ bytes)
-white_cons true b bytes e w = record {
-  run = b ∷ w.run;
-  are = rw e (ap (λ t. b ∷ t) w.are);
-  is = rw (e, w.is) refl;
-  outside = rw e w.outside;
-}
-white_cons false b bytes e w = record { run = []; are = rw e refl; is = refl; outside = rw e e }
-
-pub white_of : (bytes : List ℕ) → White bytes
-white_of [] = record { run = []; are = refl; is = refl; outside = tt }
-white_of (b ∷ bytes) = white_cons (is_white b) b bytes refl (white_of bytes)
+pub white_at : {bytes dark : List ℕ} → dark ≡ after_white bytes → Front is_white bytes dark
+white_at {bytes = bytes} e = subst (Front is_white bytes) (sym e) (white_of bytes)
 
 -- ---- one piece
 

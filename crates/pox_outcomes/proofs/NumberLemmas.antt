@@ -137,51 +137,37 @@ between value least most fails =
     (λ (h : value ≤ 0xD7FF). absurd (false≢true (sym fails ∙ allowed_low value least h)))
     (cases_lt 0xD7FF value)
 
-goes_ten : (value : ℕ) → value ≤ 0x10FFFF → (y : List ℕ) × IsSome 10 value y
-goes_ten value most =
-    ⊎_elim (λ (h : is_allowed value ≡ true). ends_here 10 value h)
+-- in a base from 10 to 16, whose digits are 0 and 9 among others
+goes_at : (base value : ℕ) → 10 ≤ base → base ≤ 16 → is_digit base 48 ≡ true → is_digit base 57 ≡ true → value ≤ 0x10FFFF → (y : List ℕ) × IsSome base value y
+goes_at base value least small zero_is nine_is most =
+    let once = value * base + 0 in
+    let low : value * 10 ≤ value * base = mul-le-mul_left value least in
+    let high : value * base ≤ value * 16 = mul-le-mul_left value small in
+    let low_again : once * 10 ≤ once * base = mul-le-mul_left once least in
+    let high_again : once * base ≤ once * 16 = mul-le-mul_left once small in
+    ⊎_elim (λ (h : is_allowed value ≡ true). ends_here base value h)
     (λ (h : is_allowed value ≡ false).
     ⊎_elim
     (λ (g : value < 0x20).
     ⊎_elim
     (λ (z : value < 1).
-    let zero_is : 0 ≡ value = omega arith in
-    subst (λ (v : ℕ). (y : List ℕ) × IsSome 10 v y) zero_is (behind_digit 10 0 57 refl (ends_here 10 9 refl)))
+    let nothing : 0 ≡ value = omega arith in
+    let nine : 9 ≡ 0 * base + 9 = omega arith in
+    subst (λ (v : ℕ). (y : List ℕ) × IsSome base v y) nothing (behind_digit base 0 57 nine_is (ends_here base (0 * base + 9) (subst (λ (v : ℕ). is_allowed v ≡ true) nine refl))))
     (λ (z : 1 ≤ value).
-    behind_digit 10 value 48 refl (behind_digit 10 (value * 10 + 0) 48 refl (ends_here 10 ((value * 10 + 0) * 10 + 0) (allowed_low ((value * 10 + 0) * 10 + 0) (omega arith) (omega arith)))))
+    behind_digit base value 48 zero_is (behind_digit base once 48 zero_is (ends_here base (once * base + 0) (allowed_low (once * base + 0) (omega (arith, low, low_again)) (omega (arith, high, high_again))))))
     (cases_lt value 1))
     (λ (g : 0x20 ≤ value).
     let far = between value g most h in
-    let low = far.0 in
-    let high = far.1 in
-    behind_digit 10 value 48 refl (ends_here 10 (value * 10 + 0) (allowed_high (value * 10 + 0) (omega arith) (omega arith))))
-    (cases_lt value 0x20))
-    (cases_Bool (is_allowed value))
-
-goes_sixteen : (value : ℕ) → value ≤ 0x10FFFF → (y : List ℕ) × IsSome 16 value y
-goes_sixteen value most =
-    ⊎_elim (λ (h : is_allowed value ≡ true). ends_here 16 value h)
-    (λ (h : is_allowed value ≡ false).
-    ⊎_elim
-    (λ (g : value < 0x20).
-    ⊎_elim
-    (λ (z : value < 1).
-    let zero_is : 0 ≡ value = omega arith in
-    subst (λ (v : ℕ). (y : List ℕ) × IsSome 16 v y) zero_is (behind_digit 16 0 57 refl (ends_here 16 9 refl)))
-    (λ (z : 1 ≤ value).
-    behind_digit 16 value 48 refl (behind_digit 16 (value * 16 + 0) 48 refl (ends_here 16 ((value * 16 + 0) * 16 + 0) (allowed_low ((value * 16 + 0) * 16 + 0) (omega arith) (omega arith)))))
-    (cases_lt value 1))
-    (λ (g : 0x20 ≤ value).
-    let far = between value g most h in
-    let low = far.0 in
-    let high = far.1 in
-    behind_digit 16 value 48 refl (ends_here 16 (value * 16 + 0) (allowed_high (value * 16 + 0) (omega arith) (omega arith))))
+    let more = far.0 in
+    let less = far.1 in
+    behind_digit base value 48 zero_is (ends_here base once (allowed_high once (omega (arith, low)) (omega (arith, high)))))
     (cases_lt value 0x20))
     (cases_Bool (is_allowed value))
 
 pub goes_on : (base value : ℕ) → (base ≡ 10) ⊎ (base ≡ 16) → value ≤ 0x10FFFF → (y : List ℕ) × IsSome base value y
-goes_on base value (inl h) most = subst (λ (b : ℕ). (y : List ℕ) × IsSome b value y) (sym h) (goes_ten value most)
-goes_on base value (inr h) most = subst (λ (b : ℕ). (y : List ℕ) × IsSome b value y) (sym h) (goes_sixteen value most)
+goes_on base value (inl h) most = subst (λ (b : ℕ). (y : List ℕ) × IsSome b value y) (sym h) (goes_at 10 value (omega arith) (omega arith) refl refl most)
+goes_on base value (inr h) most = subst (λ (b : ℕ). (y : List ℕ) × IsSome b value y) (sym h) (goes_at 16 value (omega arith) (omega arith) refl refl most)
 
 pub least_base : (base : ℕ) → (base ≡ 10) ⊎ (base ≡ 16) → (1 ≤ base) × (base ≤ 16)
 least_base base (inl h) = (omega arith, omega arith)

@@ -1,16 +1,15 @@
 -- Leaves that may be left out.
 use Rattle.std.proofs.Common.{◌≡◌, ◌≢◌, ℕ, zero, suc, ◌<◌, ◌≤◌, ◌⊎◌, inl, inr, ⊎_elim, Bool, true, false, ◌==◌, List, [], ◌∷◌, ◌++◌, length, append_assoc, append-nil, refl, sym, ap, ◌∙◌, subst, arith, length-append}
 use Rattle.std.proofs.lemmas.Bool.Decides.{nat_tests}
-use Rattle.pox_outcomes.specs.Language.{◌▸◌, StopsAt, Reads, Any}
+use Rattle.pox_outcomes.specs.Language.{◌▸◌, StopsAt, Reads, Any, IsOnce}
 use Rattle.pox_outcomes.specs.Markup.{IsMarkup, word_at, is_plain, are_words}
 use Rattle.pox_outcomes.specs.Leaves.{IsLeaf}
 use Rattle.pox_outcomes.specs.Optional.{IsOptional, IsBehindWord, IsOptionalFront, ReadsOptional}
-use Rattle.pox_outcomes.proofs.LanguageLemmas.{Leads, after_leads, stops_prefix, compare}
+use Rattle.pox_outcomes.proofs.LanguageLemmas.{Leads, after_leads, stops_prefix, stops_same, compare}
 use Rattle.pox_outcomes.proofs.MarkupLemmas.{markup_one}
 use Rattle.pox_outcomes.proofs.ChoiceLemmas.{code_words}
-use Rattle.pox_outcomes.proofs.TextLemmas.{behind_same}
-use Rattle.pox_outcomes.proofs.LeafLemmas.{leaf_once, then_once}
-use Rattle.pox_outcomes.proofs.ScoreLemmas.{leaf_one, free_leaf}
+use Rattle.pox_outcomes.proofs.SequenceLemmas.{then_second, behind_same, free_once, Behind, behind_once, Both, both_same, Pair, pair_once}
+use Rattle.pox_outcomes.proofs.LeafLemmas.{leaf_some, leaf_once}
 use Rattle.pox_outcomes.proofs.OptionalFrontLemmas.{behind_word}
 
 -- Strings that begin with one of the words, whichever it is.
@@ -36,7 +35,7 @@ module _ (word : List ℕ) (words : List (List ℕ)) (closing : List ℕ) (Next 
 
   stage_goes_on : (place : ℕ) → place < length (word ∷ words) → (x : List ℕ) → IsMarkup (word_at (word ∷ words) place) x → (y : List ℕ) × Optional word closing Next (x ++ y)
   stage_goes_on zero within x is =
-      let l = leaf_one closing in
+      let l = leaf_some closing in
       let n = stage_some words Next stage in
       (l.0 ++ n.0, inl (record { front = x; back = l.0 ++ n.0; are = refl; first = is; second = record { front = l.0; back = n.0; are = refl; first = l.1; second = n.1 } }))
   stage_goes_on (suc place) within x is = let n = stage.goes_on place (omega (arith, within)) x is in (n.0, inr n.1)
@@ -80,7 +79,7 @@ module _ (word : List ℕ) (words : List (List ℕ)) (closing : List ℕ) (Next 
         let whole : h.front ++ (t.front ++ (t.back ++ r)) ≡ front ++ (back ++ s) =
         sym (ap (λ k. k ++ r) (h.are ∙ ap (λ k. h.front ++ k) t.are) ∙ append_assoc h.front (t.front ++ t.back) r ∙ ap (λ k. h.front ++ k) (append_assoc t.front t.back r)) ∙ e ∙ append_assoc front back s in
         let same = (code_words (word ∷ words) all 0 0 (omega arith) (omega arith) h.front front (t.front ++ (t.back ++ r)) (back ++ s) h.first w whole).1 in
-        let next = free_leaf closing plain t.front back (t.back ++ r) s t.first l (behind_same h.front front (t.front ++ (t.back ++ r)) (back ++ s) same whole) in
+        let next = free_once (leaf_once closing plain) t.front back (t.back ++ r) s t.first l (behind_same h.front front (t.front ++ (t.back ++ r)) (back ++ s) same whole) in
         (t.back, h.are ∙ ap (λ k. k ++ h.back) same ∙ ap (λ k. front ++ k) (t.are ∙ ap (λ k. k ++ t.back) next) ∙ sym (append_assoc front back t.back), t.second)
     leaf_out front back d r s w l (inr n) e =
         let b = stage.begins d n in
@@ -150,50 +149,69 @@ module _ (word : List ℕ) (words : List (List ℕ)) (closing : List ℕ) (Next 
 
 -- ---- what was read
 
-pub optional_reads : (word : List ℕ) (words : List (List ℕ)) (closing text bytes rest behind : List ℕ) (next : List ℕ → Type 0) → ReadsOptional (word ∷ words) closing text bytes rest → Reads next rest behind
+pub optional_reads : (word : List ℕ) (words : List (List ℕ)) (closing text : List ℕ) {bytes rest behind : List ℕ} {next : List ℕ → Type 0} → ReadsOptional (word ∷ words) closing text bytes rest → Reads next rest behind
     → Reads (IsOptional word closing text next) bytes behind
-optional_reads word words closing text bytes rest behind next (inl reads) n =
+optional_reads word words closing text {behind = behind} (inl reads) n =
     let h = reads.is in
     record {
       front = reads.front ++ n.front;
       are = reads.are ∙ ap (λ t. reads.front ++ t) n.are ∙ sym (append_assoc reads.front n.front behind);
       is = inl (record { front = h.front; back = h.back ++ n.front; are = ap (λ t. t ++ n.front) h.are ∙ append_assoc h.front h.back n.front; first = h.first; second = record { front = h.back; back = n.front; are = refl; first = h.second; second = n.is } });
     }
-optional_reads word words closing text bytes rest behind next (inr other) n = record { front = n.front; are = sym other.1 ∙ n.are; is = inr (other.0, n.is) }
+optional_reads word words closing text (inr other) n = record { front = n.front; are = sym other.1 ∙ n.are; is = inr (other.0, n.is) }
 
 -- ---- its texts
 
-pub to_optional : {V : Type 0} (word closing : List ℕ) (Next : List ℕ → Type 0) (next : V → List ℕ → Type 0) → ((x : List ℕ) → Next x → (v : V) × next v x) → (x : List ℕ) → Optional word closing Next x
-    → (text : List ℕ) × (v : V) × IsOptional word closing text (next v) x
-to_optional word closing Next next to x (inl h) =
-    let t = h.second in
-    let n = to t.back t.second in
-    (t.first.0, n.0, inl (record { front = h.front; back = h.back; are = h.are; first = h.first; second = record { front = t.front; back = t.back; are = t.are; first = t.first.1; second = n.1 } }))
-to_optional word closing Next next to x (inr h) = let n = to x h in ([], n.0, inr (refl, n.1))
+-- The leaf's text, and the value of what stands behind it.
+module _ {V : Type 0} (word : List ℕ) (words : List (List ℕ)) (closing : List ℕ) (N : V → List ℕ → Type 0) where
+  abbrev pub Opt : Both (List ℕ) V → List ℕ → Type 0
+  Opt p = IsOptional word closing p.one (N p.other)
 
-pub from_optional : (word closing : List ℕ) (Next next : List ℕ → Type 0) (text : List ℕ) → ((x : List ℕ) → next x → Next x) → (x : List ℕ) → IsOptional word closing text next x → Optional word closing Next x
-from_optional word closing Next next text from x (inl h) =
-    let t = h.second in
-    inl (record { front = h.front; back = h.back; are = h.are; first = h.first; second = record { front = t.front; back = t.back; are = t.are; first = (text, t.first); second = from t.back t.second } })
-from_optional word closing Next next text from x (inr h) = inr (from x h.1)
+  to_opt : (x : List ℕ) → Optional word closing (Any N) x → Any Opt x
+  to_opt x (inl h) = let t = h.second in (record { one = t.first.0; other = t.second.0 }, inl (then_second h (record { front = t.front; back = t.back; are = t.are; first = t.first.1; second = t.second.1 })))
+  to_opt x (inr n) = (record { one = []; other = n.0 }, inr (refl, n.1))
 
--- what is the same behind it makes it the same
-pub optional_once : (word : List ℕ) (words : List (List ℕ)) (closing : List ℕ) (Next next other : List ℕ → Type 0) (P : Type 0) → IsStage words Next → are_words (word ∷ words) ≡ true → is_plain closing ≡ true
-    → ((x : List ℕ) → next x → Next x) → ((x : List ℕ) → other x → Next x) → ((x y r s : List ℕ) → next x → other y → x ++ r ≡ y ++ s → P × (x ≡ y))
-    → (t u x y r s : List ℕ) → IsOptional word closing t next x → IsOptional word closing u other y → x ++ r ≡ y ++ s → ((t ≡ u) × P) × (x ≡ y)
-optional_once word words closing Next next other P stage all plain from from_other once t u x y r s (inl a) (inl b) e =
-    let o =
-    then_once {P = Unit {0}} x y r s (λ x y r s a b e. (tt, (code_words (word ∷ words) all 0 0 (omega arith) (omega arith) x y r s a b e).1))
-    (λ x y r s a b e. let i = then_once x y r s (λ x y r s a b e. leaf_once closing t u x y r s plain a b e) once a b e in ((i.0, i.1), i.2)) a b e in
-    (o.1, o.2)
-optional_once word words closing Next next other P stage all plain from from_other once t u x y r s (inl a) (inr b) e = absurd (word_apart a.front a.back y r s a.first (stage.begins y (from_other y b.1)) (sym (ap (λ k. k ++ r) a.are) ∙ e)) where
-  word_apart : (front back y r s : List ℕ) → IsMarkup word front → (place : ℕ) × (place < length words) × (front back : List ℕ) × (y ≡ front ++ back) × IsMarkup (word_at words place) front → (front ++ back) ++ r ≡ y ++ s → ⊥
-  word_apart front back y r s w b e =
-      let far = code_words (word ∷ words) all 0 (suc b.0) (omega arith) (omega (arith, b.1)) front b.2 (back ++ r) (b.3 ++ s) w b.5 (sym (append_assoc front back r) ∙ e ∙ ap (λ k. k ++ s) b.4 ∙ append_assoc b.2 b.3 s) in
-      omega (arith, far.0)
-optional_once word words closing Next next other P stage all plain from from_other once t u x y r s (inr a) (inl b) e = absurd (word_apart b.front b.back x s r b.first (stage.begins x (from x a.1)) (sym (ap (λ k. k ++ s) b.are) ∙ sym e)) where
-  word_apart : (front back y r s : List ℕ) → IsMarkup word front → (place : ℕ) × (place < length words) × (front back : List ℕ) × (y ≡ front ++ back) × IsMarkup (word_at words place) front → (front ++ back) ++ r ≡ y ++ s → ⊥
-  word_apart front back y r s w b e =
-      let far = code_words (word ∷ words) all 0 (suc b.0) (omega arith) (omega (arith, b.1)) front b.2 (back ++ r) (b.3 ++ s) w b.5 (sym (append_assoc front back r) ∙ e ∙ ap (λ k. k ++ s) b.4 ∙ append_assoc b.2 b.3 s) in
-      omega (arith, far.0)
-optional_once word words closing Next next other P stage all plain from from_other once t u x y r s (inr a) (inr b) e = let o = once x y r s a.1 b.1 e in ((a.0 ∙ sym b.0, o.0), o.1)
+  from_opt : (p : Both (List ℕ) V) (x : List ℕ) → Opt p x → Optional word closing (Any N) x
+  from_opt p x (inl h) = let t = h.second in inl (then_second h (record { front = t.front; back = t.back; are = t.are; first = (p.one, t.first); second = (p.other, t.second) }))
+  from_opt p x (inr n) = inr (p.other, n.1)
+
+  same_opt : {bytes : List ℕ} {n : ℕ} → StopsAt (Optional word closing (Any N)) bytes n → StopsAt (Any Opt) bytes n
+  same_opt {bytes = bytes} {n = n} s = stops_same bytes n to_opt (λ x h. from_opt h.0 x h.1) s
+
+  module _ (stage : IsStage words (Any N)) where
+    pub opt_stage : IsStage (word ∷ words) (Any Opt)
+    opt_stage =
+        let more = stage_more word words closing (Any N) stage in
+        record {
+          begins = λ x h. more.begins x (from_opt h.0 x h.1);
+          goes_on = λ place within x is. let y = more.goes_on place within x is in (y.0, to_opt (x ++ y.0) y.1);
+          some_word = more.some_word;
+        }
+
+    pub opt_here : {bytes : List ℕ} {n : ℕ} → StopsAt (IsOptionalFront (word ∷ words) closing) bytes n → StopsAt (Any Opt) bytes n
+    opt_here {bytes = bytes} {n = n} s = same_opt (optional_stops word words closing (Any N) stage bytes n s)
+
+    module _ (all : are_words (word ∷ words) ≡ true) (plain : is_plain closing ≡ true) where
+      pub opt_on : {bytes rest : List ℕ} {n : ℕ} (text : List ℕ) → ReadsOptional (word ∷ words) closing text bytes rest → StopsAt (Any N) rest n → StopsAt (Any Opt) bytes n
+      opt_on {bytes = bytes} {rest = rest} {n = n} text reads s = same_opt ((optional_leads word words closing (Any N) stage all plain text bytes rest reads).stops n s)
+
+      word_apart : (v : V) (front back y r s : List ℕ) → IsMarkup word front → N v y → (front ++ back) ++ r ≡ y ++ s → ⊥
+      word_apart v front back y r s w n e =
+          let b = stage.begins y (v, n) in
+          let far = code_words (word ∷ words) all 0 (suc b.0) (omega arith) (omega (arith, b.1)) front b.2 (back ++ r) (b.3 ++ s) w b.5 (sym (append_assoc front back r) ∙ e ∙ ap (λ k. k ++ s) b.4 ∙ append_assoc b.2 b.3 s) in
+          omega (arith, far.0)
+
+      -- the word, a leaf and what stands behind it
+      abbrev Found : Both (List ℕ) V → List ℕ → Type 0
+      Found = Behind (IsMarkup word) (Pair (IsLeaf closing) (λ text. N))
+
+      found_once : IsOnce N → IsOnce Found
+      found_once once =
+          behind_once (IsMarkup word) (Pair (IsLeaf closing) (λ text. N)) (λ x y r s a b e. (code_words (word ∷ words) all 0 0 (omega arith) (omega arith) x y r s a b e).1)
+          (pair_once (IsLeaf closing) (λ text. N) (leaf_once closing plain) (λ text. once))
+
+      pub opt_once : IsOnce N → IsOnce Opt
+      opt_once once p q x y r s (inl a) (inl b) e = found_once once p q x y r s a b e
+      opt_once once p q x y r s (inl a) (inr b) e = absurd (word_apart q.other a.front a.back y r s a.first b.1 (sym (ap (λ k. k ++ r) a.are) ∙ e))
+      opt_once once p q x y r s (inr a) (inl b) e = absurd (word_apart p.other b.front b.back x s r b.first a.1 (sym (ap (λ k. k ++ s) b.are) ∙ sym e))
+      opt_once once p q x y r s (inr a) (inr b) e = let o = once p.other q.other x y r s a.1 b.1 e in (both_same p q (a.0 ∙ sym b.0) o.0, o.1)

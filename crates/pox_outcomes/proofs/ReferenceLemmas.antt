@@ -1,14 +1,13 @@
 -- References to characters.
-use Rattle.std.proofs.Common.{◌≡◌, ◌≢◌, ℕ, zero, suc, ◌<◌, ◌⊎◌, inl, inr, ⊎_elim, Bool, true, false, ◌==◌, List, [], ◌∷◌, ◌++◌, slice_index, MatchBool, append_assoc, refl, sym, ap, ◌∙◌, subst, arith, codes}
+use Rattle.std.proofs.Common.{◌≡◌, ℕ, zero, suc, ◌<◌, ◌⊎◌, inl, inr, ⊎_elim, Bool, true, false, ◌==◌, List, [], ◌∷◌, ◌++◌, slice_index, MatchBool, refl, sym, ap, ◌∙◌, subst, arith, codes}
 use Rattle.std.specs.List.{list_all}
 use Rattle.std.proofs.lemmas.Bool.{false≢true, cases_Bool}
-use Rattle.std.proofs.lemmas.List.{append_cancel_left}
 use Rattle.lti_outside.proofs.BoolLemmas.{and_split}
-use Rattle.pox_outcomes.specs.Language.{Then, StopsAt, Reads, IsAmong}
+use Rattle.pox_outcomes.specs.Language.{Then, StopsAt, Reads, IsAmong, IsOnce}
 use Rattle.pox_outcomes.specs.Markup.{IsMarkup, word_at, BeginsOtherwise}
 use Rattle.pox_outcomes.specs.References.{is_digit, IsNumber, IsNumeral, IsClosing, IsReference, openings, named}
-use Rattle.pox_outcomes.proofs.LanguageLemmas.{Leads, after_leads, stops_beside, stops_same, no_cons}
-use Rattle.pox_outcomes.proofs.ChoiceLemmas.{IsCode, IsChoice, code_words, leads_choice, stops_choice}
+use Rattle.pox_outcomes.proofs.LanguageLemmas.{Leads, after_leads, stops_beside, stops_same, reads_as, reads_then, elsewhere_byte}
+use Rattle.pox_outcomes.proofs.ChoiceLemmas.{IsCode, IsChoice, code_words, leads_choice, stops_choice, choice_once}
 use Rattle.pox_outcomes.proofs.NumberLemmas.{IsSome, goes_on, number_once}
 
 abbrev pub IsSomeNumeral : List ℕ → Type 0
@@ -45,17 +44,12 @@ leads_x bytes digits is = after_leads bytes (120 ∷ []) digits is (record {
   out = λ d r s n e. x_out n.0 d r s n.1 e;
 })
 
-pub reads_x : (bytes digits rest : List ℕ) (code : ℕ) → bytes ≡ 120 ∷ digits → Reads (IsNumber 16 0 code) digits rest → Reads (IsNumeral code) bytes rest
-reads_x bytes digits rest code is reads = record {
+pub reads_x : (code : ℕ) {bytes digits rest : List ℕ} → bytes ≡ 120 ∷ digits → Reads (IsNumber 16 0 code) digits rest → Reads (IsNumeral code) bytes rest
+reads_x code is reads = record {
   front = 120 ∷ reads.front;
   are = is ∙ ap (λ t. 120 ∷ t) reads.are;
   is = inl (record { front = 120 ∷ []; back = reads.front; are = refl; first = markup_x; second = reads.is });
 }
-
-elsewhere_x : (bytes p q r y : List ℕ) → BeginsOtherwise 120 bytes → p ++ q ≡ 120 ∷ y → bytes ≡ p ++ r → (p ≡ []) × (q ≢ [])
-elsewhere_x bytes [] q r y other e is = (refl, no_cons q 120 y e)
-elsewhere_x [] (b ∷ p) q r y other e is = absurd (cc)
-elsewhere_x (c ∷ bytes) (b ∷ p) q r y other e is = absurd (other cc)
 
 numeral_to : (x : List ℕ) → IsSome 10 0 x ⊎ ((code : ℕ) × Then (IsMarkup (codes "x")) (IsNumber 16 0 code) x) → IsSomeNumeral x
 numeral_to x (inl n) = (n.0, inr n.1)
@@ -68,7 +62,7 @@ numeral_from code x (inr n) = inl (code, n)
 -- without an `x`
 pub stops_ten : (bytes : List ℕ) (n : ℕ) → BeginsOtherwise 120 bytes → StopsAt (IsSome 10 0) bytes n → StopsAt IsSomeNumeral bytes n
 stops_ten bytes n other s = stops_same bytes n numeral_to (λ x m. numeral_from m.0 x m.1)
-    (stops_beside bytes n (λ p q r d e. elsewhere_x bytes p q r d.1.back other (d.1.are ∙ ap (λ t. t ++ d.1.back) (letter_x d.1.front d.1.first)) e) s)
+    (stops_beside bytes n (λ p q r d e. elsewhere_byte 120 bytes p q r d.1.back other (d.1.are ∙ ap (λ t. t ++ d.1.back) (letter_x d.1.front d.1.first)) e) s)
 
 -- ---- the whole reference
 
@@ -107,16 +101,12 @@ pub numeral_stops : (bytes rest : List ℕ) (n : ℕ) → Reads (Opens 5) bytes 
 numeral_stops bytes rest n reads s =
     stops_same bytes n to_reference from_reference ((leads_choice Opens IsSomeClosing 6 5 bytes rest code_openings (omega arith) reads).stops n s)
 
-pub numeral_reads : (bytes rest behind : List ℕ) (code : ℕ) → Reads (Opens 5) bytes rest → Reads (IsNumeral code) rest behind → Reads (IsReference code) bytes behind
-numeral_reads bytes rest behind code opened reads = record {
-  front = opened.front ++ reads.front;
-  are = opened.are ∙ ap (λ t. opened.front ++ t) reads.are ∙ sym (append_assoc opened.front reads.front behind);
-  is = (5, omega arith, record { front = opened.front; back = reads.front; are = refl; first = opened.is; second = reads.is });
-}
+pub numeral_reads : (code : ℕ) {bytes rest behind : List ℕ} → Reads (Opens 5) bytes rest → Reads (IsNumeral code) rest behind → Reads (IsReference code) bytes behind
+numeral_reads code opened reads = reads_as (λ x h. (5, omega arith, h)) (reads_then opened reads)
 
 -- ---- each reference is to one character
 
-numeral_once : (c d : ℕ) (x y r s : List ℕ) → IsNumeral c x → IsNumeral d y → x ++ r ≡ y ++ s → (c ≡ d) × (x ≡ y)
+numeral_once : IsOnce IsNumeral
 numeral_once c d x y r s (inl m) (inl n) e =
     let em : x ++ r ≡ 120 ∷ (m.back ++ r) = ap (λ t. t ++ r) (m.are ∙ ap (λ t. t ++ m.back) (letter_x m.front m.first)) in
     let en : y ++ s ≡ 120 ∷ (n.back ++ s) = ap (λ t. t ++ s) (n.are ∙ ap (λ t. t ++ n.back) (letter_x n.front n.first)) in
@@ -132,21 +122,12 @@ numeral_once c d x y r s (inr m) (inl n) e =
     absurd (no_x c m.digits x r (n.back ++ s) m.are m.in_base (e ∙ en))
 numeral_once c d x y r s (inr m) (inr n) e = number_once 10 0 c d x y r s (omega arith) m n e
 
-closing_once : (t : Bool) (place c d : ℕ) (x y r s : List ℕ) → closes t place c x → closes t place d y → x ++ r ≡ y ++ s → (c ≡ d) × (x ≡ y)
-closing_once true place c d x y r s a b e = numeral_once c d x y r s a b e
-closing_once false place c d x y r s a b e = (a.0 ∙ sym b.0, a.1 ∙ sym b.1)
+closing_once : (t : Bool) (place : ℕ) → IsOnce (closes t place)
+closing_once true place = numeral_once
+closing_once false place = λ c d x y r s a b e. (a.0 ∙ sym b.0, a.1 ∙ sym b.1)
 
-pub reference_once : (c d : ℕ) (x y r s : List ℕ) → IsReference c x → IsReference d y → x ++ r ≡ y ++ s → (c ≡ d) × (x ≡ y)
-reference_once c d x y r s a b e =
-    let ta = a.2 in
-    let tb = b.2 in
-    let ea : x ++ r ≡ ta.front ++ (ta.back ++ r) = ap (λ t. t ++ r) ta.are ∙ append_assoc ta.front ta.back r in
-    let eb : y ++ s ≡ tb.front ++ (tb.back ++ s) = ap (λ t. t ++ s) tb.are ∙ append_assoc tb.front tb.back s in
-    let same = code_openings a.0 b.0 a.1 b.1 ta.front tb.front (ta.back ++ r) (tb.back ++ s) ta.first tb.first (sym ea ∙ e ∙ eb) in
-    let rest : ta.back ++ r ≡ tb.back ++ s = append_cancel_left tb.front (ta.back ++ r) (tb.back ++ s) (ap (λ t. t ++ (ta.back ++ r)) (sym same.1) ∙ sym ea ∙ e ∙ eb) in
-    let there : IsClosing b.0 c ta.back = subst (λ (k : ℕ). IsClosing k c ta.back) same.0 ta.second in
-    let once = closing_once (b.0 == 5) b.0 c d ta.back tb.back r s there tb.second rest in
-    (once.0, ta.are ∙ ap (λ t. t ++ ta.back) same.1 ∙ ap (λ t. tb.front ++ t) once.1 ∙ sym tb.are)
+pub reference_once : IsOnce IsReference
+reference_once = choice_once Opens IsClosing 6 code_openings (λ place. closing_once (place == 5) place)
 
 opening_mark : (place : ℕ) → place < 6 → (m : List ℕ) × (word_at openings place ≡ 38 ∷ m)
 opening_mark zero within = (codes "lt;", refl)

@@ -2,15 +2,15 @@
 use Rattle.std.proofs.Common.{◌≡◌, ◌≢◌, ℕ, ◌≤◌, ◌⊎◌, inl, inr, ⊎_elim, Bool, true, false, ◌||◌, ◌==◌, List, [], ◌∷◌, ◌++◌, length, append_assoc, append-nil, refl, sym, ap, ◌∙◌, subst, arith, length-append, codes, encode_utf8}
 use Rattle.std.specs.List.{list_all}
 use Rattle.std.proofs.lemmas.Bool.{false≢true}
-use Rattle.std.proofs.lemmas.List.{append_cancel_left}
 use Rattle.std.proofs.lemmas.Bool.Decides.{nat_tests}
 use Rattle.lti_outside.proofs.BoolLemmas.{and_split}
-use Rattle.pox_outcomes.specs.Language.{Then, StopsAt, Reads}
+use Rattle.pox_outcomes.specs.Language.{Then, StopsAt, Reads, IsOnce}
 use Rattle.pox_outcomes.specs.Markup.{is_white, IsWhite, BeginsOtherwise}
 use Rattle.pox_outcomes.specs.Characters.{rows, row_at, IsCharacter, IsCharacterBy, begins}
 use Rattle.pox_outcomes.specs.Texts.{is_literal, IsLiteral, IsUnit, is_gap, IsGap, IsRest, ends, goes, IsUnits, IsBegun, IsText, Pushes, PushesGap}
-use Rattle.pox_outcomes.proofs.LanguageLemmas.{IsPrefixFree, compare, leads_first, stops_here, stops_beside, stops_same, no_cons}
-use Rattle.pox_outcomes.proofs.RunLemmas.{IsRun, IsOutside, BeginsOutside, run_once, run_front, run_ends, run_no, leads_run}
+use Rattle.pox_outcomes.proofs.LanguageLemmas.{IsPrefixFree, compare, leads_first, stops_here, stops_beside, stops_same, no_cons, flipped, elsewhere_byte}
+use Rattle.pox_outcomes.proofs.SequenceLemmas.{joined, free_once, parts_even, backs_even, parts_same}
+use Rattle.pox_outcomes.proofs.RunLemmas.{IsRun, IsOutside, BeginsOutside, run_parts, run_front, run_ends, run_no, leads_run}
 use Rattle.pox_outcomes.proofs.MarkupLemmas.{not_true}
 use Rattle.pox_outcomes.proofs.CharacterLemmas.{free_character, nonempty_at, empty_row}
 use Rattle.pox_outcomes.proofs.ReferenceLemmas.{IsSomeReference, reference_once, reference_begins}
@@ -127,14 +127,8 @@ dark_outside : (x : List ℕ) → IsDark x → BeginsOutside is_white x
 dark_outside x (inl u) = let first = units_byte u.0 x u.1 in (first.0, first.1, first.2, first.3)
 dark_outside x (inr e) = (60, [], e, refl)
 
--- the bytes don't begin with `<`
-elsewhere_less : (dark p q r : List ℕ) → BeginsOtherwise 60 dark → p ++ q ≡ codes "<" → dark ≡ p ++ r → (p ≡ []) × (q ≢ [])
-elsewhere_less dark [] q r other e is = (refl, no_cons q 60 [] e)
-elsewhere_less [] (b ∷ p) q r other e is = absurd (cc)
-elsewhere_less (c ∷ dark) (b ∷ p) q r other e is = absurd (other cc)
-
 pub dark_stops : (dark : List ℕ) (n : ℕ) → BeginsOtherwise 60 dark → StopsAt IsSomeUnits dark n → StopsAt IsDark dark n
-dark_stops dark n other s = stops_beside dark n (λ p q r d e. elsewhere_less dark p q r other d e) s
+dark_stops dark n other s = stops_beside dark n (λ p q r d e. elsewhere_byte 60 dark p q r [] other d e) s
 
 -- behind a gap a unit is to come
 pub rest_behind : (bytes gap dark : List ℕ) (n : ℕ) → bytes ≡ gap ++ dark → IsGap gap → IsOutside is_white dark → BeginsOtherwise 60 dark → StopsAt IsSomeUnits dark n → StopsAt IsSomeRest bytes n
@@ -203,24 +197,11 @@ literal_unit : (x : List ℕ) → IsLiteral x ⊎ IsSomeReference x → IsSomeUn
 literal_unit x (inl h) = (x, inl (h, refl))
 literal_unit x (inr h) = (encode_utf8 h.0, inr (h.0, refl, h.1))
 
-flip : (x : List ℕ) → IsSomeReference x ⊎ IsLiteral x → IsLiteral x ⊎ IsSomeReference x
-flip x (inl a) = inr a
-flip x (inr a) = inl a
-
-flip_back : (x : List ℕ) → IsLiteral x ⊎ IsSomeReference x → IsSomeReference x ⊎ IsLiteral x
-flip_back x (inl a) = inr a
-flip_back x (inr a) = inl a
-
-elsewhere_mark : (bytes p q r t : List ℕ) → BeginsOtherwise 38 bytes → p ++ q ≡ 38 ∷ t → bytes ≡ p ++ r → (p ≡ []) × (q ≢ [])
-elsewhere_mark bytes [] q r t other e is = (refl, no_cons q 38 t e)
-elsewhere_mark [] (b ∷ p) q r t other e is = absurd (cc)
-elsewhere_mark (c ∷ bytes) (b ∷ p) q r t other e is = absurd (other cc)
-
 -- without a `&`
 pub literal_stops : (bytes : List ℕ) (n : ℕ) → BeginsOtherwise 38 bytes → StopsAt IsLiteral bytes n → StopsAt IsSomeUnit bytes n
 literal_stops bytes n other s =
     stops_same bytes n literal_unit (λ x u. unit_literal u.0 x u.1)
-    (stops_beside bytes n (λ p q r d e. let first = reference_begins d.0 (p ++ q) d.1 in elsewhere_mark bytes p q r first.0 other first.1 e) s)
+    (stops_beside bytes n (λ p q r d e. let first = reference_begins d.0 (p ++ q) d.1 in elsewhere_byte 38 bytes p q r first.0 other first.1 e) s)
 
 elsewhere_literal : (bytes p q r rest : List ℕ) → bytes ≡ 38 ∷ rest → begins is_literal (p ++ q) ≡ true → bytes ≡ p ++ r → (p ≡ []) × (q ≢ [])
 elsewhere_literal bytes [] [] r rest mark first e = absurd (false≢true first)
@@ -233,7 +214,7 @@ elsewhere_literal bytes (b ∷ p) q r rest mark first e =
 -- behind a `&`
 pub mark_stops : (bytes rest : List ℕ) (n : ℕ) → bytes ≡ 38 ∷ rest → StopsAt IsSomeReference bytes n → StopsAt IsSomeUnit bytes n
 mark_stops bytes rest n mark s =
-    stops_same bytes n (λ x h. literal_unit x (flip x h)) (λ x u. flip_back x (unit_literal u.0 x u.1))
+    stops_same bytes n (λ x h. literal_unit x (flipped h)) (λ x u. flipped (unit_literal u.0 x u.1))
     (stops_beside bytes n (λ p q r d e. elsewhere_literal bytes p q r rest mark d.first e) s)
 
 -- ---- the loop
@@ -339,18 +320,18 @@ less_stops dark other = record {
   left_is = refl;
   begins = (codes "<", refl);
   apart = λ p q r d e.
-      let far = elsewhere_less dark p q r other d e in
+      let far = elsewhere_byte 60 dark p q r [] other d e in
       let same : length dark ≡ length r = ap length (e ∙ ap (λ t. t ++ r) far.0) in
       (omega (arith, same), far.1);
 }
 
-less_outside : (x : List ℕ) → x ≡ codes "<" → BeginsOutside is_white x
-less_outside x e = (60, [], e, refl)
+is_less_outside : (x : List ℕ) → x ≡ codes "<" → BeginsOutside is_white x
+is_less_outside x e = (60, [], e, refl)
 
 return_apart : (bytes gap dark text p q r x : List ℕ) → bytes ≡ gap ++ dark → IsWhite gap → list_all is_gap gap ≡ false → IsOutside is_white dark → BeginsOtherwise 60 dark → x ≡ p ++ q → IsRest text x → bytes ≡ p ++ r
     → (length dark ≤ length r) × (q ≢ [])
 return_apart bytes gap dark text p q r x are white fails outside other x_is (ends run is run_are none) e =
-    let stop = (leads_run is_white bytes gap dark are white outside less_outside).stops (length dark) (less_stops dark other) in
+    let stop = (leads_run is_white bytes gap dark are white outside is_less_outside).stops (length dark) (less_stops dark other) in
     stop.apart p q r (record { front = run; back = codes "<"; are = sym x_is ∙ run_are; first = is; second = refl }) e
 return_apart bytes gap dark text p q r x are white fails outside other x_is (goes gap2 here unit others rest is unit_is behind run_are text_is) e =
     let first = unit_byte here unit unit_is in
@@ -377,57 +358,53 @@ return_stops bytes gap dark are white fails outside other = record {
 
 -- ---- bytes spell one text
 
--- the first parts are the same, and so is what stands behind
-pub behind_same : (a b x y : List ℕ) → a ≡ b → a ++ x ≡ b ++ y → x ≡ y
-behind_same a b x y same e = append_cancel_left b x y (ap (λ t. t ++ x) (sym same) ∙ e)
+-- the white bytes of a rest, and what stands behind them
+abbrev white_parts : (white back x : List ℕ) → IsWhite white → x ≡ white ++ back → Then (IsRun is_white) (λ y. y ≡ back) x
+white_parts white back x is are = record { front = white; back = back; are = are; first = is; second = refl }
 
-pub rest_once : (t u x y r s : List ℕ) → IsRest t x → IsRest u y → x ++ r ≡ y ++ s → (t ≡ u) × (x ≡ y)
-rest_once t u x y r s (ends white is are none) (ends white2 is2 are2 none2) e =
-    let ex : x ++ r ≡ white ++ 60 ∷ r = ap (λ t. t ++ r) are ∙ append_assoc white (codes "<") r in
-    let ey : y ++ s ≡ white2 ++ 60 ∷ s = ap (λ t. t ++ s) are2 ∙ append_assoc white2 (codes "<") s in
-    let once = run_once is_white white white2 60 60 r s is is2 refl refl (sym ex ∙ e ∙ ey) in
-    (none ∙ sym none2, are ∙ ap (λ t. t ++ codes "<") once.0 ∙ sym are2)
-rest_once t u x y r s (ends white is are none) (goes gap here unit others rest gap_is unit_is behind run_are text_is) e =
-    let first = unit_byte here unit unit_is in
-    let ex : x ++ r ≡ white ++ 60 ∷ r = ap (λ t. t ++ r) are ∙ append_assoc white (codes "<") r in
-    let ey : y ++ s ≡ gap ++ first.0 ∷ ((first.1 ++ rest) ++ s) = ap (λ t. t ++ s) (run_are ∙ ap (λ t. gap ++ (t ++ rest)) first.2) ∙ append_assoc gap (first.0 ∷ (first.1 ++ rest)) s in
-    let once = run_once is_white white gap 60 first.0 r ((first.1 ++ rest) ++ s) is (gap_white gap gap_is) refl first.3 (sym ex ∙ e ∙ ey) in
-    let tails = once.1 in
+less_outside : BeginsOutside is_white (codes "<")
+less_outside = (60, [], refl, refl)
+
+unit_outside : (here unit : List ℕ) → IsUnit here unit → (rest : List ℕ) → BeginsOutside is_white (unit ++ rest)
+unit_outside here unit is rest = let first = unit_byte here unit is in (first.0, first.1 ++ rest, ap (λ t. t ++ rest) first.2, first.3)
+
+no_unit : (here unit rest r s : List ℕ) → IsUnit here unit → codes "<" ++ r ≡ (unit ++ rest) ++ s → ⊥
+no_unit here unit rest r s is e =
+    let first = unit_byte here unit is in
+    let whole : 60 ∷ r ≡ first.0 ∷ ((first.1 ++ rest) ++ s) = e ∙ ap (λ t. (t ++ rest) ++ s) first.2 in
     let head : 60 ≡ first.0 = cc in
-    absurd (false≢true (sym first.4 ∙ rw (sym head) refl))
+    false≢true (sym first.4 ∙ rw (sym head) refl)
+
+pub rest_once : IsOnce IsRest
+rest_once t u x y r s (ends white is are none) (ends white2 is2 are2 none2) e =
+    let a = white_parts white (codes "<") x is are in
+    let b = white_parts white2 (codes "<") y is2 are2 in
+    (none ∙ sym none2, parts_same a b (run_parts is_white r s a b less_outside less_outside e).0 refl)
+rest_once t u x y r s (ends white is are none) (goes gap here unit others rest gap_is unit_is behind run_are text_is) e =
+    let same = run_parts is_white r s (white_parts white (codes "<") x is are) (white_parts gap (unit ++ rest) y (gap_white gap gap_is) run_are) less_outside (unit_outside here unit unit_is rest) e in
+    absurd (no_unit here unit rest r s unit_is same.1)
 rest_once t u x y r s (goes gap here unit others rest gap_is unit_is behind run_are text_is) (ends white is are none) e =
-    let first = unit_byte here unit unit_is in
-    let ey : y ++ s ≡ white ++ 60 ∷ s = ap (λ t. t ++ s) are ∙ append_assoc white (codes "<") s in
-    let ex : x ++ r ≡ gap ++ first.0 ∷ ((first.1 ++ rest) ++ r) = ap (λ t. t ++ r) (run_are ∙ ap (λ t. gap ++ (t ++ rest)) first.2) ∙ append_assoc gap (first.0 ∷ (first.1 ++ rest)) r in
-    let once = run_once is_white gap white first.0 60 ((first.1 ++ rest) ++ r) s (gap_white gap gap_is) is first.3 refl (sym ex ∙ e ∙ ey) in
-    let tails = once.1 in
-    let head : first.0 ≡ 60 = cc in
-    absurd (false≢true (sym first.4 ∙ rw head refl))
+    let same = run_parts is_white r s (white_parts gap (unit ++ rest) x (gap_white gap gap_is) run_are) (white_parts white (codes "<") y is are) (unit_outside here unit unit_is rest) less_outside e in
+    absurd (no_unit here unit rest s r unit_is (sym same.1))
 rest_once t u x y r s (goes gap here unit others rest gap_is unit_is behind run_are text_is) (goes gap2 here2 unit2 others2 rest2 gap_is2 unit_is2 behind2 run_are2 text_is2) e =
-    let first = unit_byte here unit unit_is in
-    let other = unit_byte here2 unit2 unit_is2 in
-    let ex : x ++ r ≡ gap ++ (unit ++ (rest ++ r)) = ap (λ t. t ++ r) run_are ∙ append_assoc gap (unit ++ rest) r ∙ ap (λ t. gap ++ t) (append_assoc unit rest r) in
-    let ey : y ++ s ≡ gap2 ++ (unit2 ++ (rest2 ++ s)) = ap (λ t. t ++ s) run_are2 ∙ append_assoc gap2 (unit2 ++ rest2) s ∙ ap (λ t. gap2 ++ t) (append_assoc unit2 rest2 s) in
-    let fx : gap ++ (unit ++ (rest ++ r)) ≡ gap ++ first.0 ∷ (first.1 ++ (rest ++ r)) = ap (λ t. gap ++ (t ++ (rest ++ r))) first.2 in
-    let fy : gap2 ++ (unit2 ++ (rest2 ++ s)) ≡ gap2 ++ other.0 ∷ (other.1 ++ (rest2 ++ s)) = ap (λ t. gap2 ++ (t ++ (rest2 ++ s))) other.2 in
-    let whole = sym ex ∙ e ∙ ey in
-    let once = run_once is_white gap gap2 first.0 other.0 (first.1 ++ (rest ++ r)) (other.1 ++ (rest2 ++ s)) (gap_white gap gap_is) (gap_white gap2 gap_is2) first.3 other.3 (sym fx ∙ whole ∙ fy) in
-    let inner = behind_same gap gap2 (unit ++ (rest ++ r)) (unit2 ++ (rest2 ++ s)) once.0 whole in
-    let same = unit_once here here2 unit unit2 (rest ++ r) (rest2 ++ s) unit_is unit_is2 inner in
-    let last = behind_same unit unit2 (rest ++ r) (rest2 ++ s) same.1 inner in
-    let next = rest_once others others2 rest rest2 r s behind behind2 last in (
+    let a = white_parts gap (unit ++ rest) x (gap_white gap gap_is) run_are in
+    let b = white_parts gap2 (unit2 ++ rest2) y (gap_white gap2 gap_is2) run_are2 in
+    let once = run_parts is_white r s a b (unit_outside here unit unit_is rest) (unit_outside here2 unit2 unit_is2 rest2) e in
+    let au : Then (IsUnit here) (IsRest others) (unit ++ rest) = joined unit rest unit_is behind in
+    let bu : Then (IsUnit here2) (IsRest others2) (unit2 ++ rest2) = joined unit2 rest2 unit_is2 behind2 in
+    let same = unit_once here here2 unit unit2 (rest ++ r) (rest2 ++ s) unit_is unit_is2 (parts_even r s au bu once.1) in
+    let next = rest_once others others2 rest rest2 r s behind behind2 (backs_even r s au bu same.1 once.1) in (
       text_is ∙ ap (λ g. g ++ (here ++ others)) once.0 ∙ ap (λ h. gap2 ++ (h ++ others)) same.0 ∙ ap (λ o. gap2 ++ (here2 ++ o)) next.0 ∙ sym text_is2,
-      run_are ∙ ap (λ g. g ++ (unit ++ rest)) once.0 ∙ ap (λ h. gap2 ++ (h ++ rest)) same.1 ∙ ap (λ o. gap2 ++ (unit2 ++ o)) next.1 ∙ sym run_are2,
+      parts_same a b once.0 (parts_same au bu same.1 next.1),
     )
 
-units_once : (t u x y r s : List ℕ) → IsUnits t x → IsUnits u y → x ++ r ≡ y ++ s → (t ≡ u) × (x ≡ y)
+units_once : IsOnce IsUnits
 units_once t u x y r s a b e =
-    let ex : x ++ r ≡ a.unit ++ (a.rest ++ r) = ap (λ t. t ++ r) a.are ∙ append_assoc a.unit a.rest r in
-    let ey : y ++ s ≡ b.unit ++ (b.rest ++ s) = ap (λ t. t ++ s) b.are ∙ append_assoc b.unit b.rest s in
-    let whole = sym ex ∙ e ∙ ey in
-    let same = unit_once a.here b.here a.unit b.unit (a.rest ++ r) (b.rest ++ s) a.is b.is whole in
-    let next = rest_once a.others b.others a.rest b.rest r s a.behind b.behind (behind_same a.unit b.unit (a.rest ++ r) (b.rest ++ s) same.1 whole) in
-    (a.text_is ∙ ap (λ h. h ++ a.others) same.0 ∙ ap (λ o. b.here ++ o) next.0 ∙ sym b.text_is, a.are ∙ ap (λ h. h ++ a.rest) same.1 ∙ ap (λ o. b.unit ++ o) next.1 ∙ sym b.are)
+    let au : Then (IsUnit a.here) (IsRest a.others) x = record { front = a.unit; back = a.rest; are = a.are; first = a.is; second = a.behind } in
+    let bu : Then (IsUnit b.here) (IsRest b.others) y = record { front = b.unit; back = b.rest; are = b.are; first = b.is; second = b.behind } in
+    let same = unit_once a.here b.here a.unit b.unit (a.rest ++ r) (b.rest ++ s) a.is b.is (parts_even r s au bu e) in
+    let next = rest_once a.others b.others a.rest b.rest r s a.behind b.behind (backs_even r s au bu same.1 e) in
+    (a.text_is ∙ ap (λ h. h ++ a.others) same.0 ∙ ap (λ o. b.here ++ o) next.0 ∙ sym b.text_is, parts_same au bu same.1 next.1)
 
 less_unit : (t x r s : List ℕ) → IsUnits t x → 60 ∷ r ≡ x ++ s → ⊥
 less_unit t x r s u e =
@@ -446,18 +423,15 @@ begun_outside : (t x : List ℕ) → IsBegun t x → BeginsOutside is_white x
 begun_outside t x b = dark_outside x (dark_of_begun t x b)
 
 -- each text token spells one text, and none begins another
-pub text_once : (t u x y r s : List ℕ) → IsText t x → IsText u y → x ++ r ≡ y ++ s → (t ≡ u) × (x ≡ y)
+pub text_once : IsOnce IsText
 text_once t u x y r s a b e =
-    let oa = begun_outside t a.back a.second in
-    let ob = begun_outside u b.back b.second in
-    let ex : x ++ r ≡ a.front ++ (a.back ++ r) = ap (λ t. t ++ r) a.are ∙ append_assoc a.front a.back r in
-    let ey : y ++ s ≡ b.front ++ (b.back ++ s) = ap (λ t. t ++ s) b.are ∙ append_assoc b.front b.back s in
-    let whole = sym ex ∙ e ∙ ey in
-    let fx : a.front ++ (a.back ++ r) ≡ a.front ++ oa.0 ∷ (oa.1 ++ r) = ap (λ t. a.front ++ (t ++ r)) oa.2 in
-    let fy : b.front ++ (b.back ++ s) ≡ b.front ++ ob.0 ∷ (ob.1 ++ s) = ap (λ t. b.front ++ (t ++ s)) ob.2 in
-    let once = run_once is_white a.front b.front oa.0 ob.0 (oa.1 ++ r) (ob.1 ++ s) a.first b.first oa.3 ob.3 (sym fx ∙ whole ∙ fy) in
-    let same = begun_once t u a.back b.back r s a.second b.second (behind_same a.front b.front (a.back ++ r) (b.back ++ s) once.0 whole) in
-    (same.0, a.are ∙ ap (λ f. f ++ a.back) once.0 ∙ ap (λ k. b.front ++ k) same.1 ∙ sym b.are)
+    let same = run_parts is_white r s a b (begun_outside t a.back a.second) (begun_outside u b.back b.second) e in
+    let next = begun_once t u a.back b.back r s a.second b.second same.1 in
+    (next.0, parts_same a b same.0 next.1)
 
 pub free_text : IsPrefixFree IsSomeText
-free_text x y r s a b e = (text_once a.0 b.0 x y r s a.1 b.1 e).1
+free_text = free_once text_once
+
+-- an empty text
+pub text_some : (y : List ℕ) × IsSomeText y
+text_some = (codes "<", ([], record { front = []; back = codes "<"; are = refl; first = refl; second = inl (refl, refl) }))

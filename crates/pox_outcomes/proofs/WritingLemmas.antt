@@ -6,7 +6,7 @@ use Rattle.std.proofs.lemmas.Bool.Decides.{nat_tests}
 use Rattle.pox_outcomes.specs.Language.{StopsAt, Reads}
 use Rattle.pox_outcomes.specs.Characters.{IsCharacter}
 use Rattle.pox_outcomes.specs.Written.{IsXmlText, none, one, escape_byte, escape_part}
-use Rattle.pox_outcomes.proofs.TextLemmas.{behind_same}
+use Rattle.pox_outcomes.proofs.SequenceLemmas.{behind_same}
 use Rattle.pox_outcomes.proofs.CharacterLemmas.{free_character}
 
 -- ---- allowed characters

@@ -1,10 +1,9 @@
--- Answers to outcome requests (LTI 1.1.1, section 6, and the schema imsoms_v1p0). In markup a space stands for any white bytes.
-use Rattle.std.specs.Prelude.{ℕ, false, List, [], ◌∷◌, codes}
+-- Answers to outcome requests (LTI 1.1.1, section 6, and the schema imsoms_v1p0). In markup a space stands for any
+-- white bytes.
+use Rattle.std.specs.Prelude.{ℕ, List, [], ◌∷◌, codes}
 use Rattle.pox_outcomes.specs.Language.{◌▸◌}
-use Rattle.pox_outcomes.specs.Markup.{IsWhite, IsMarkup, word_at}
-use Rattle.pox_outcomes.specs.Attributes.{IsAttributes}
-use Rattle.pox_outcomes.specs.Declaration.{IsOpening}
-use Rattle.pox_outcomes.specs.Leaves.{IsLeaf}
+use Rattle.pox_outcomes.specs.Markup.{IsMarkup, word_at}
+use Rattle.pox_outcomes.specs.Document.{IsHead, DocumentOf}
 use Rattle.pox_outcomes.specs.Optional.{IsOptional}
 use Rattle.pox_outcomes.specs.Body.{IsBody}
 use Rattle.pox_outcomes.specs.declared.answer.Major.{Major}
@@ -68,12 +67,14 @@ IsDetails d =
 abbrev pub details_of : Answer → Details
 details_of a = record { severity = a.severity; description = a.description; message_ref = a.message_ref; operation_ref = a.operation_ref; score_text = a.score_text }
 
+-- what stands behind the message identifier
+abbrev pub IsStated : Major → Details → List ℕ → Type 0
+IsStated major d = IsMarkup (word_at majors (major_place major)) ▸ IsDetails d
+
 -- the answer from its declaration up to the end tag of its root
 abbrev pub IsAnswer : Answer → List ℕ → Type 0
-IsAnswer a =
-    IsOpening answer_root ▸ IsAttributes false ▸ IsMarkup answer_header ▸ IsLeaf (codes "/imsx_messageIdentifier >") a.message
-    ▸ IsMarkup (word_at majors (major_place a.major)) ▸ IsDetails (details_of a)
+IsAnswer a = IsHead answer_root answer_header a.message ▸ IsStated a.major (details_of a)
 
 -- the bytes are this answer, with any white bytes behind it
 abbrev pub AnswerOf : List ℕ → Answer → Type 0
-AnswerOf bytes a = (IsAnswer a ▸ IsWhite) bytes
+AnswerOf = DocumentOf IsAnswer

@@ -54,7 +54,8 @@ pub record IsAttribute (name bytes : List ℕ) : Type 0 where
 abbrev pub is_xmlns : List ℕ → Bool
 is_xmlns name = bytes_eq name (codes "xmlns")
 
--- Attributes with white bytes in front of each, and the `>` of the tag. One of them is `xmlns`, unless it was seen before.
+-- Attributes with white bytes in front of each, and the `>` of the tag. One of them is `xmlns`, unless it was seen
+-- before.
 pub data IsAttributes : Bool → List ℕ → Type 0 where
   ends : {seen : Bool} {bytes : List ℕ} → seen ≡ true → IsMarkup (codes " >") bytes → IsAttributes seen bytes
   goes : {seen : Bool} {bytes : List ℕ} (white name attribute rest : List ℕ) → IsWhite white → begins is_white white ≡ true → IsAttribute name attribute

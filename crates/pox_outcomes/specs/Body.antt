@@ -1,4 +1,5 @@
--- The body of an answer (LTI 1.1.1, section 6, and the schema imsoms_v1p0). In markup a space stands for any white bytes.
+-- The body of an answer (LTI 1.1.1, section 6, and the schema imsoms_v1p0). In markup a space stands for any white
+-- bytes.
 use Rattle.std.specs.Prelude.{◌≡◌, ℕ, List, [], ◌∷◌, ◌++◌, ◌⊎◌, codes}
 use Rattle.pox_outcomes.specs.Language.{◌▸◌}
 use Rattle.pox_outcomes.specs.Markup.{IsMarkup}
@@ -26,7 +27,7 @@ pub record IsElement (score bytes : List ℕ) : Type 0 where
   pub rest : List ℕ
   pub are : bytes ≡ name ++ rest
   pub name_is : IsElementName name
-  pub behind : IsTag (IsInside name) score rest
+  pub behind : IsTag (codes " > <") (IsInside name) score rest
 
 -- what stands behind the first `<` inside of the body: its end tag, or one element and the end tag
 abbrev pub IsContent : List ℕ → List ℕ → Type 0
@@ -34,4 +35,4 @@ IsContent score bytes = ((score ≡ []) × IsMarkup (codes "/imsx_POXBody >") by
 
 -- the body from behind its name on
 abbrev pub IsBody : List ℕ → List ℕ → Type 0
-IsBody = IsTag IsContent
+IsBody = IsTag (codes " > <") IsContent

@@ -21,12 +21,13 @@ pub record IsElementName (name : List ℕ) : Type 0 where
   pub bytes : list_all is_element_byte name ≡ true
 
 -- how an element goes on behind its name
-abbrev pub tag_starts : List (List ℕ)
-tag_starts = codes " />" ∷ codes " > <" ∷ []
+abbrev pub tag_starts : List ℕ → List (List ℕ)
+tag_starts start = codes " />" ∷ start ∷ []
 
--- What stands behind an element's name: `/>` where it holds nothing, or `>`, a `<` and what this set says.
-abbrev pub IsTag : (List ℕ → List ℕ → Type 0) → List ℕ → List ℕ → Type 0
-IsTag Inside score bytes = ((score ≡ []) × IsMarkup (codes " />") bytes) ⊎ (IsMarkup (codes " > <") ▸ Inside score) bytes
+-- What stands behind an element's name: `/>` where it holds nothing, or the start, which is markup, and what this set
+-- says.
+abbrev pub IsTag : List ℕ → (List ℕ → List ℕ → Type 0) → List ℕ → List ℕ → Type 0
+IsTag start Inside text bytes = ((text ≡ []) × IsMarkup (codes " />") bytes) ⊎ (IsMarkup start ▸ Inside text) bytes
 
 -- the end tag of the name, behind its `<`
 abbrev pub IsEndTag : List ℕ → List ℕ → Type 0

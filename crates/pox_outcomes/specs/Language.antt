@@ -17,7 +17,8 @@ A ▸ B = Then A B
 abbrev pub IsFront : (List ℕ → Type 0) → List ℕ → Type 0
 IsFront L bytes = (more : List ℕ) × L (bytes ++ more)
 
--- No string of the set begins the bytes, and `left` bytes stand behind the longest front of one with which they begin.
+-- No string of the set begins the bytes, and `left` bytes stand behind the longest front of one with which they
+-- begin.
 pub record StopsAt (L : List ℕ → Type 0) (bytes : List ℕ) (left : ℕ) : Type 0 where
   pub front : List ℕ
   pub rest : List ℕ
@@ -39,3 +40,7 @@ IsAmong A most bytes = (place : ℕ) × (place < most) × A place bytes
 -- a string of some member of the family
 abbrev pub Any : {V : Type 0} → (V → List ℕ → Type 0) → List ℕ → Type 0
 Any {V = V} L bytes = (v : V) × L v bytes
+
+-- a string of the family is of one value, and begins no other string of it
+abbrev pub IsOnce : {V : Type 0} → (V → List ℕ → Type 0) → Type 0
+IsOnce {V = V} L = (v w : V) (x y r s : List ℕ) → L v x → L w y → x ++ r ≡ y ++ s → (v ≡ w) × (x ≡ y)

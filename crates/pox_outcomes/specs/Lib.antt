@@ -4,11 +4,12 @@ pub mod Markup
 pub mod Characters
 pub mod References
 pub mod Texts
+pub mod Elements
 pub mod Leaves
 pub mod Attributes
 pub mod Declaration
+pub mod Document
 pub mod Scores
-pub mod Elements
 pub mod Optional
 pub mod Request
 pub mod Body

@@ -1,10 +1,9 @@
 -- Outcome requests (LTI 1.1.1, section 6, and the schema imsoms_v1p0). In markup a space stands for any white bytes.
-use Rattle.std.specs.Prelude.{◌≡◌, ℕ, false, List, [], ◌∷◌, codes}
+use Rattle.std.specs.Prelude.{◌≡◌, ℕ, List, [], ◌∷◌, codes}
 use Rattle.pox_outcomes.specs.Language.{◌▸◌}
-use Rattle.pox_outcomes.specs.Markup.{IsWhite, IsMarkup, word_at}
-use Rattle.pox_outcomes.specs.Attributes.{IsAttributes}
-use Rattle.pox_outcomes.specs.Declaration.{IsOpening}
+use Rattle.pox_outcomes.specs.Markup.{IsMarkup, word_at}
 use Rattle.pox_outcomes.specs.Leaves.{IsLeaf}
+use Rattle.pox_outcomes.specs.Document.{IsHead, DocumentOf}
 use Rattle.pox_outcomes.specs.Scores.{IsScored}
 use Rattle.pox_outcomes.specs.declared.outcome.Operation.{Operation}
 use Rattle.pox_outcomes.specs.declared.outcome.Operation.TheVariants.{ReplaceResult, ReadResult, DeleteResult}
@@ -42,22 +41,24 @@ read_end = codes " </sourcedGUID > </resultRecord > </readResultRequest > </imsx
 abbrev pub delete_end : List ℕ
 delete_end = codes " </sourcedGUID > </resultRecord > </deleteResultRequest > </imsx_POXBody > </imsx_POXEnvelopeRequest >"
 
+-- the end of a request without a score
+abbrev pub IsNoScore : List ℕ → List ℕ → List ℕ → Type 0
+IsNoScore end score bytes = (score ≡ []) × IsMarkup end bytes
+
 -- what stands behind the id
 abbrev pub IsTail : Operation → List ℕ → List ℕ → Type 0
-IsTail ReplaceResult score bytes = IsScored scores replace_end score bytes
-IsTail ReadResult score bytes = (score ≡ []) × IsMarkup read_end bytes
-IsTail DeleteResult score bytes = (score ≡ []) × IsMarkup delete_end bytes
+IsTail ReplaceResult = IsScored scores replace_end
+IsTail ReadResult = IsNoScore read_end
+IsTail DeleteResult = IsNoScore delete_end
 
--- the id, and what stands behind it
-abbrev pub IsResult : Operation → List ℕ → List ℕ → List ℕ → Type 0
-IsResult operation id score = IsLeaf (codes "/sourcedId >") id ▸ IsTail operation score
+-- what stands behind the message identifier
+abbrev pub IsAsked : Operation → List ℕ → List ℕ → List ℕ → Type 0
+IsAsked operation id score = IsMarkup (word_at operations (place_of operation)) ▸ IsLeaf (codes "/sourcedId >") id ▸ IsTail operation score
 
 -- the envelope from its declaration up to the end tag of its root
 abbrev pub IsEnvelope : Outcome → List ℕ → Type 0
-IsEnvelope o =
-    IsOpening root ▸ IsAttributes false ▸ IsMarkup header ▸ IsLeaf (codes "/imsx_messageIdentifier >") o.message
-    ▸ IsMarkup (word_at operations (place_of o.operation)) ▸ IsResult o.operation o.sourced_id o.score_text
+IsEnvelope o = IsHead root header o.message ▸ IsAsked o.operation o.sourced_id o.score_text
 
 -- the bytes are an envelope of this outcome, with any white bytes behind it
 abbrev pub EnvelopeOf : List ℕ → Outcome → Type 0
-EnvelopeOf bytes o = (IsEnvelope o ▸ IsWhite) bytes
+EnvelopeOf = DocumentOf IsEnvelope

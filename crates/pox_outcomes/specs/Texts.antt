@@ -14,7 +14,8 @@ is_literal b = not (is_white b || b == 60 || b == 38)
 abbrev pub IsLiteral : List ℕ → Type 0
 IsLiteral = IsCharacterBy is_literal
 
--- what is no white byte of a text: a character that stands for itself, or a reference. Some UTF-8 is spelled by the bytes
+-- what is no white byte of a text: a character that stands for itself, or a reference. Some UTF-8 is spelled by the
+-- bytes
 abbrev pub IsUnit : List ℕ → List ℕ → Type 0
 IsUnit text bytes = (IsLiteral bytes × (bytes ≡ text)) ⊎ ((code : ℕ) × (text ≡ encode_utf8 code) × IsReference code bytes)
 

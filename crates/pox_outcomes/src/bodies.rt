@@ -1,5 +1,5 @@
 // Reading the body of an answer (LTI 1.1.1, section 6, and the schema imsoms_v1p0).
-ghost use Rattle.std.specs.Prelude.{◌≡◌, true, ℕ, List, IfOk, IfErr};
+ghost use Rattle.std.specs.Prelude.{◌≡◌, true, ℕ, List, codes, IfOk, IfErr};
 ghost use Rattle.std.specs.Str.{bytes_eq};
 ghost use Rattle.pox_outcomes.specs.Language.{Any, Reads};
 ghost use Rattle.pox_outcomes.specs.Body as spec;
@@ -51,8 +51,8 @@ fn inside<'a>(alloc: Global, bytes: &'a [u8], name: &[u8]) -> Result<(Text, &'a 
 // The score of an element from behind its name on, and what stands behind the element.
 fn behind_name<'a>(alloc: Global, bytes: &'a [u8], name: &[u8]) -> Result<(Text, &'a [u8]), Halt>
     requires { is_plain name.now ≡ true }
-    ensures reads { IfOk result (λ found. Reads (IsTag (IsInside name.now) found.0) bytes.now found.1.now) }
-    ensures stops { IfErr result (IsHalt (Any (IsTag (IsInside name.now))) bytes.now) }
+    ensures reads { IfOk result (λ found. Reads (IsTag (codes " > <") (IsInside name.now) found.0) bytes.now found.1.now) }
+    ensures stops { IfErr result (IsHalt (Any (IsTag (codes " > <") (IsInside name.now))) bytes.now) }
 {
     let (place, rest) = one_of(bytes, &TAG_STARTS)?;
     if place == 0 {

@@ -31,8 +31,8 @@ pub fn leaf<'a>(alloc: Global, bytes: &'a [u8], closing: &[u8]) -> Result<(Text,
     Ok((text, rest))
 }
 
-/// The text of an element that may be left out, and what stands behind it. The element begins with the first word, and
-/// what may follow it with one of the others. Where it is left out, the text is empty and no byte is read.
+/// The text of an element that may be left out, and what stands behind it. The element begins with the first word,
+/// and what may follow it with one of the others. Where it is left out, the text is empty and no byte is read.
 pub fn optional_leaf<'a>(
     alloc: Global,
     bytes: &'a [u8],

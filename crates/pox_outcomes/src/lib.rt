@@ -14,6 +14,7 @@ mod bodies;
 mod characters;
 mod declaration;
 mod details;
+mod documents;
 mod elements;
 mod faults;
 mod laws;

@@ -2,15 +2,15 @@
 ghost use Rattle.std.specs.Prelude.{◌≡◌, ◌<◌, ◌==◌, true, ℕ, List, length, codes, IfOk, IfErr, MatchResult};
 ghost use Rattle.pox_outcomes.specs.Language.{Any, Reads};
 ghost use Rattle.pox_outcomes.specs.Request as spec;
-ghost use Rattle.pox_outcomes.specs.Request.{IsTail, IsEnvelope, EnvelopeOf, place_of};
+ghost use Rattle.pox_outcomes.specs.Request.{IsNoScore, IsTail, EnvelopeOf, place_of};
+ghost use Rattle.pox_outcomes.specs.Markup.{is_plain};
 ghost use Rattle.pox_outcomes.specs.BadRequest.{IsBadRequest};
 ghost use Rattle.pox_outcomes.specs.declared.outcome.Operation.TheVariants as operation;
 ghost use Rattle.pox_outcomes.specs.Stops.{IsHalt};
 
-use crate::attributes::after_attributes;
-use crate::declaration::after_opening;
+use crate::documents::{Document, head, read};
 use crate::leaves::leaf;
-use crate::markup::{follow, is_end, one_of, skip_white};
+use crate::markup::{follow, one_of};
 use crate::scores::score;
 use crate::stops::Halt;
 use crate::{EnvelopeFault, Operation, Outcome};
@@ -55,21 +55,13 @@ fn operation_at(place: usize) -> Operation
     }
 }
 
-// The empty score of a readResult from behind its id on, and what stands behind the root.
-fn read_tail(alloc: Global, bytes: &[u8]) -> Result<(Text, &[u8]), Halt>
-    ensures reads { IfOk result (λ found. Reads (IsTail operation.ReadResult found.0) bytes.now found.1.now) }
-    ensures stops { IfErr result (IsHalt (Any (IsTail operation.ReadResult)) bytes.now) }
+// The empty score of a request from behind its id on, and what stands behind the root.
+fn no_score<'a>(alloc: Global, bytes: &'a [u8], end: &[u8]) -> Result<(Text, &'a [u8]), Halt>
+    requires { is_plain end.now ≡ true }
+    ensures reads { IfOk result (λ found. Reads (IsNoScore end.now found.0) bytes.now found.1.now) }
+    ensures stops { IfErr result (IsHalt (Any (IsNoScore end.now)) bytes.now) }
 {
-    let behind = follow(bytes, READ_END)?;
-    Ok((Text::empty(alloc), behind))
-}
-
-// The empty score of a deleteResult from behind its id on, and what stands behind the root.
-fn delete_tail(alloc: Global, bytes: &[u8]) -> Result<(Text, &[u8]), Halt>
-    ensures reads { IfOk result (λ found. Reads (IsTail operation.DeleteResult found.0) bytes.now found.1.now) }
-    ensures stops { IfErr result (IsHalt (Any (IsTail operation.DeleteResult)) bytes.now) }
-{
-    let behind = follow(bytes, DELETE_END)?;
+    let behind = follow(bytes, end)?;
     Ok((Text::empty(alloc), behind))
 }
 
@@ -80,31 +72,30 @@ fn tail(alloc: Global, bytes: &[u8], asked: Operation) -> Result<(Text, &[u8]), 
 {
     match asked {
         Operation::ReplaceResult => score(alloc, bytes, &SCORES, REPLACE_END),
-        Operation::ReadResult => read_tail(alloc, bytes),
-        Operation::DeleteResult => delete_tail(alloc, bytes),
+        Operation::ReadResult => no_score(alloc, bytes, READ_END),
+        Operation::DeleteResult => no_score(alloc, bytes, DELETE_END),
     }
 }
 
-// The outcome of an envelope, and what stands behind the end tag of its root.
-fn envelope(alloc: Global, bytes: &[u8]) -> Result<(Outcome, &[u8]), Halt>
-    ensures reads { IfOk result (λ found. Reads (IsEnvelope found.0) bytes.now found.1.now) }
-    ensures stops { IfErr result (IsHalt (Any IsEnvelope) bytes.now) }
-{
-    let opened = after_opening(bytes, ROOT)?;
-    let named = after_attributes(opened)?;
-    let headed = follow(named, HEADER)?;
-    let (message, asked) = leaf(alloc, headed, b"/imsx_messageIdentifier >")?;
-    let (place, identified) = one_of(asked, &OPERATIONS)?;
-    let operation = operation_at(place);
-    let (sourced_id, scored) = leaf(alloc, identified, b"/sourcedId >")?;
-    let (score_text, behind) = tail(alloc, scored, operation)?;
-    let outcome = Outcome {
-        message,
-        operation,
-        sourced_id,
-        score_text,
-    };
-    Ok((outcome, behind))
+impl Document for Outcome {
+    ghost use Rattle.pox_outcomes.specs.Request.{IsEnvelope};
+
+    ghost spelled = { IsEnvelope };
+
+    fn read_root(alloc: Global, bytes: &[u8]) -> Result<(Outcome, &[u8]), Halt> {
+        let (message, asked) = head(alloc, bytes, ROOT, HEADER)?;
+        let (place, identified) = one_of(asked, &OPERATIONS)?;
+        let operation = operation_at(place);
+        let (sourced_id, scored) = leaf(alloc, identified, b"/sourcedId >")?;
+        let (score_text, behind) = tail(alloc, scored, operation)?;
+        let outcome = Outcome {
+            message,
+            operation,
+            sourced_id,
+            score_text,
+        };
+        Ok((outcome, behind))
+    }
 }
 
 /// The outcome that an envelope asks for (LTI 1.1.1, section 6, and the schema imsoms_v1p0): an XML declaration or
@@ -115,19 +106,5 @@ pub fn read_request(alloc: Global, bytes: &[u8]) -> Result<Outcome, EnvelopeFaul
     ensures only { (o : Outcome) → EnvelopeOf bytes.now o → MatchResult result (λ found. found ≡ o) (λ fault. fault ≡ EnvelopeFault.NoMemory) }
     ensures bad { IfErr result (IsBadRequest bytes.now) }
 {
-    match envelope(alloc, bytes) {
-        Ok((outcome, rest)) => {
-            let dark = skip_white(rest);
-            if !is_end(dark) {
-                return Err(EnvelopeFault::BadEnvelope {
-                    at: (bytes.len() - dark.len()) as u64,
-                });
-            }
-            Ok(outcome)
-        }
-        Err(Halt::Stopped(stop)) => Err(EnvelopeFault::BadEnvelope {
-            at: (bytes.len() - stop.left) as u64,
-        }),
-        Err(Halt::NoMemory) => Err(EnvelopeFault::NoMemory),
-    }
+    read(alloc, bytes)
 }

@@ -1,15 +1,13 @@
 // Reading answers to outcome requests (LTI 1.1.1, section 6, and the schema imsoms_v1p0).
 ghost use Rattle.std.specs.Prelude.{◌≡◌, ◌<◌, ◌==◌, true, ℕ, List, length, codes, IfOk, IfErr, MatchResult};
 ghost use Rattle.pox_outcomes.specs.Language.{Any, Reads};
-ghost use Rattle.pox_outcomes.specs.Answer.{IsAnswer, AnswerOf, major_place};
+ghost use Rattle.pox_outcomes.specs.Answer.{AnswerOf, major_place};
 ghost use Rattle.pox_outcomes.specs.BadRequest.{IsFaultOf};
 ghost use Rattle.pox_outcomes.specs.Stops.{IsHalt};
 
-use crate::attributes::after_attributes;
-use crate::declaration::after_opening;
 use crate::details::read_details;
-use crate::leaves::leaf;
-use crate::markup::{follow, is_end, one_of, skip_white};
+use crate::documents::{Document, head, read};
+use crate::markup::one_of;
 use crate::stops::Halt;
 use crate::{Answer, EnvelopeFault, Major};
 use std::alloc::Global;
@@ -39,52 +37,37 @@ fn major_at(place: usize) -> Major
     }
 }
 
-// The answer, and what stands behind the end tag of its root.
-fn answer(alloc: Global, bytes: &[u8]) -> Result<(Answer, &[u8]), Halt>
-    ensures reads { IfOk result (λ found. Reads (IsAnswer found.0) bytes.now found.1.now) }
-    ensures stops { IfErr result (IsHalt (Any IsAnswer) bytes.now) }
-{
-    let opened = after_opening(bytes, ROOT)?;
-    let named = after_attributes(opened)?;
-    let headed = follow(named, HEADER)?;
-    let (message, stated) = leaf(alloc, headed, b"/imsx_messageIdentifier >")?;
-    let (place, coded) = one_of(stated, &MAJORS)?;
-    let major = major_at(place);
-    let (said, behind) = read_details(alloc, coded)?;
-    let answer = Answer {
-        message,
-        major,
-        severity: said.severity,
-        description: said.description,
-        message_ref: said.message_ref,
-        operation_ref: said.operation_ref,
-        score_text: said.score_text,
-    };
-    Ok((answer, behind))
+impl Document for Answer {
+    ghost use Rattle.pox_outcomes.specs.Answer.{IsAnswer};
+
+    ghost spelled = { IsAnswer };
+
+    fn read_root(alloc: Global, bytes: &[u8]) -> Result<(Answer, &[u8]), Halt> {
+        let (message, stated) = head(alloc, bytes, ROOT, HEADER)?;
+        let (place, coded) = one_of(stated, &MAJORS)?;
+        let major = major_at(place);
+        let (said, behind) = read_details(alloc, coded)?;
+        let answer = Answer {
+            message,
+            major,
+            severity: said.severity,
+            description: said.description,
+            message_ref: said.message_ref,
+            operation_ref: said.operation_ref,
+            score_text: said.score_text,
+        };
+        Ok((answer, behind))
+    }
 }
 
-/// The answer to an outcome request (LTI 1.1.1, section 6, and the schema imsoms_v1p0): an XML declaration or none, the
-/// root `imsx_POXEnvelopeResponse` with an attribute `xmlns`, the header with the message identifier and the status,
-/// and a body that holds nothing, one element without content, or a `readResultResponse` with a score. White bytes may
-/// stand between tags and round texts.
+/// The answer to an outcome request (LTI 1.1.1, section 6, and the schema imsoms_v1p0): an XML declaration or none,
+/// the root `imsx_POXEnvelopeResponse` with an attribute `xmlns`, the header with the message identifier and the
+/// status, and a body that holds nothing, one element without content, or a `readResultResponse` with a score. White
+/// bytes may stand between tags and round texts.
 pub fn read_answer(alloc: Global, bytes: &[u8]) -> Result<Answer, EnvelopeFault>
     ensures answer { IfOk result (AnswerOf bytes.now) }
     ensures only { (a : Answer) → AnswerOf bytes.now a → MatchResult result (λ found. found ≡ a) (λ fault. fault ≡ EnvelopeFault.NoMemory) }
     ensures bad { IfErr result (IsFaultOf AnswerOf bytes.now) }
 {
-    match answer(alloc, bytes) {
-        Ok((answer, rest)) => {
-            let dark = skip_white(rest);
-            if !is_end(dark) {
-                return Err(EnvelopeFault::BadEnvelope {
-                    at: (bytes.len() - dark.len()) as u64,
-                });
-            }
-            Ok(answer)
-        }
-        Err(Halt::Stopped(stop)) => Err(EnvelopeFault::BadEnvelope {
-            at: (bytes.len() - stop.left) as u64,
-        }),
-        Err(Halt::NoMemory) => Err(EnvelopeFault::NoMemory),
-    }
+    read(alloc, bytes)
 }

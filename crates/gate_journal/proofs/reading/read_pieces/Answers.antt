@@ -35,7 +35,6 @@ loop-pieces-preserved g c =
     let read = c.in_ok-payload.ensures in
     let seen = g.D.Disk.seen c.args.disk.now in
     let at = c.loop-pieces.at in
-    let front = take (c.args.base + 9) seen in
     let payloads = payloads_of c.loop-pieces.pieces.items in
     let payload = c.in_ok-payload.payload.items in
     let piece : Piece = record { at = at; payload = c.from_vec.result } in
@@ -51,9 +50,9 @@ loop-pieces-preserved g c =
           let gate = ap (λ (l : List ℕ). get_or l at 0) (sym i.reads.same) ∙ (opened.gate tells).0 c.if-branch.true in
           let bytes : drop (at + 1) seen ≡ length_bytes (length payload) ++ payload ++ drop (at + 5 + length payload) seen =
           ap (λ (l : List ℕ). drop (at + 1) l) (sym same) ∙ read.bytes tells ∙ ap (λ (l : List ℕ). length_bytes (length payload) ++ payload ++ drop (at + 5 + length payload) l) same in
-          ap (λ (k : ℕ). take (at + 5 + k) seen) n
-          ∙ one_more seen front at payloads payload (i.so_far tells) within gate bytes
-          ∙ ap (λ (l : List (List ℕ)). front ++ blocks l) (sym pushed);
+          one_more seen c.args.base at payloads payload (i.so_far tells) within gate bytes
+          ∙ ap (λ (l : List (List ℕ)). blocks l ++ drop (at + 5 + length payload) seen) (sym pushed)
+          ∙ ap (λ (k : ℕ). blocks (payloads_of c.push.new.self.items) ++ drop (at + 5 + k) seen) (sym n);
       ends = omega (arith, length-blocks-push payloads payload, n, i.ends, ap (λ (l : List (List ℕ)). length (blocks l)) pushed);
       inside = omega (arith, read.fits, n);
       places =

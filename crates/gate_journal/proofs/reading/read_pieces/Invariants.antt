@@ -1,4 +1,4 @@
-use Rattle.std.proofs.Common.{◌≡◌, ◌+◌, ◌-◌, ◌<◌, ◌++◌, length, map, take}
+use Rattle.std.proofs.Common.{◌≡◌, ◌+◌, ◌-◌, ◌<◌, ◌++◌, length, map, drop}
 use Rattle.lti_outside.specs.DiskMoments.{OnlyReads}
 use Rattle.gate_journal.specs.Half.{blocks}
 use Rattle.gate_journal.specs.Pieces.{payloads_of, places_from}
@@ -11,7 +11,7 @@ invariant-loop-pieces g l =
     record {
       reads : OnlyReads g.D.Disk l.initial.disk l.disk;
       faults : g.D.Disk.faults l.disk ≡ g.D.Disk.faults l.initial.disk;
-      so_far : g.D.Disk.tells → take l.at seen ≡ take (l.base + 9) seen ++ blocks payloads;
+      so_far : g.D.Disk.tells → drop (l.base + 9) seen ≡ blocks payloads ++ drop l.at seen;
       ends : l.base + 9 + length (blocks payloads) ≡ l.at;
       inside : l.at < l.end;
       places : map (λ piece. piece.at) l.pieces.items ≡ places_from (l.base + 9) payloads;

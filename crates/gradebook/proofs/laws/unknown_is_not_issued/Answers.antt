@@ -1,6 +1,6 @@
 use Rattle.std.proofs.Common.{sym, ◌∙◌}
 use Rattle.lti_machine.specs.Standings.{standing}
-use Rattle.gradebook.proofs.IssuedLemmas.{known_is_issued, unknown_from, unknown_not_known}
+use Rattle.lti_machine.proofs.IssuedLemmas.{known_is_issued, unknown_from, unknown_not_known}
 use Rattle.gradebook.proofs.laws.unknown_is_not_issued.Goals as goal
 
 pub returns : goal.returns

@@ -2,10 +2,11 @@ use Rattle.std.proofs.Common.{◌≡◌, inl, inr, refl, sym, arith, None, map, 
 use Rattle.httparse.specs.Spans.{header_bytes}
 use Rattle.http_wire.specs.Conditions.{first_fault}
 use Rattle.http_wire.specs.Lines.{line_conditions}
-use Rattle.http_wire.specs.Answer.{PlainAnswer, plain_answer_of}
+use Rattle.http_wire.specs.Answer.{AnswerHeadParts, IsAnswerOf, answer_head_parts_of, answer_conditions}
+use Rattle.http_wire.specs.AnswerFront.{IsAnswerFront}
 use Rattle.http_wire.proofs.FieldLemmas.{answer_room, feeds_are_pairs}
 use Rattle.http_wire.proofs.ConditionLemmas.{lines_passed}
-use Rattle.http_wire.proofs.AnswerLemmas.{answer_parts_told}
+use Rattle.http_wire.proofs.ReadingLemmas.{parts_told}
 use Rattle.http_wire.proofs.answer_head.read_head.Goals as goal
 
 pub returns-in_default : goal.returns-in_default
@@ -19,9 +20,9 @@ pub returns : goal.returns
 returns c =
     let parsed = c.in-Some.ensures.some in
     let at = parsed.1 in
-    let plain : PlainAnswer = record {
+    let head_parts : AnswerHeadParts = record {
       status = c.in-Some.spans.code;
       headers = map (header_bytes c.args.head.now) (take c.in-Some.spans.headers c.parse_whole.new.headers);
     } in
-    let is : plain ≡ plain_answer_of parsed.0 = λ i. record { status = at.code i; headers = at.fields i } in
-    answer_parts_told c.args.limits.now c.args.head.now plain parsed.0 (sym c.in_ok-check_lines.ensures) parsed.2 is c.read_parts.result c.read_parts.ensures
+    let is : head_parts ≡ answer_head_parts_of parsed.0 = λ i. record { status = at.code i; headers = at.fields i } in
+    parts_told IsAnswerOf answer_head_parts_of (answer_conditions c.args.limits.now) c.args.limits.now c.args.head.now IsAnswerFront head_parts parsed.0 (sym c.in_ok-check_lines.ensures) parsed.2 is c.read_parts.result c.read_parts.ensures

@@ -4,8 +4,9 @@ use Rattle.http_wire.specs.Conditions.{first_fault}
 use Rattle.http_wire.specs.Lines.{line_conditions}
 use Rattle.http_wire.proofs.FieldLemmas.{room, feeds_are_pairs}
 use Rattle.http_wire.proofs.HeaderLemmas.{token_is_ascii}
-use Rattle.http_wire.specs.Head.{Plain, plain_of}
-use Rattle.http_wire.proofs.FaultLemmas.{parts_told}
+use Rattle.http_wire.specs.Head.{HeadParts, IsRequestOf, head_parts_of, part_conditions}
+use Rattle.http_wire.specs.Front.{IsFront}
+use Rattle.http_wire.proofs.ReadingLemmas.{parts_told}
 use Rattle.http_wire.proofs.ConditionLemmas.{lines_passed}
 use Rattle.http_wire.proofs.head.read_head.Goals as goal
 
@@ -25,12 +26,12 @@ pub returns : goal.returns
 returns c =
     let parsed = c.in-Some.ensures.some in
     let at = parsed.1 in
-    let plain : Plain = record {
+    let head_parts : HeadParts = record {
       method = c.of.result.now;
       target = c.of-2.result.now;
       minor = c.in-Some.spans.version;
       headers = map (header_bytes c.args.head.now) (take c.in-Some.spans.headers c.parse_whole.new.headers);
     } in
-    let is : plain ≡ plain_of parsed.0
+    let is : head_parts ≡ head_parts_of parsed.0
     = λ i. record { method = (c.of.ensures ∙ at.method) i; target = (c.of-2.ensures ∙ at.path) i; minor = at.version i; headers = at.fields i } in
-    parts_told c.args.limits.now c.args.head.now plain parsed.0 (sym c.in_ok-check_lines.ensures) parsed.2 is c.read_parts.result c.read_parts.ensures
+    parts_told IsRequestOf head_parts_of (part_conditions c.args.limits.now) c.args.limits.now c.args.head.now IsFront head_parts parsed.0 (sym c.in_ok-check_lines.ensures) parsed.2 is c.read_parts.result c.read_parts.ensures

@@ -1,7 +1,7 @@
-use Rattle.std.proofs.Common.{reverse, ap, ◌∙◌}
-use Rattle.httparse.specs.Grammar.{skip_ows, trim_ows}
+use Rattle.std.proofs.Common.{ap, ◌∙◌}
+use Rattle.oauth_text.specs.Blanks as blanks
+use Rattle.http_wire.proofs.TrimLemmas.{trim-is}
 use Rattle.http_wire.proofs.values.trim.Goals as goal
 
 pub returns : goal.returns
-unfolding trim_ows
-returns c = c.trim_end.ensures.trimmed ∙ ap (λ text. reverse (skip_ows (reverse text))) c.trim_front.ensures
+returns c = c.trim_end.ensures.trimmed ∙ ap blanks.trim_end c.trim_front.ensures.trimmed ∙ trim-is c.args.text.now

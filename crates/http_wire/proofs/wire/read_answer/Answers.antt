@@ -2,9 +2,12 @@ use Rattle.std.proofs.Common.{ℕ, List, ◌++◌, subst, refl, sym, ap, ◌∙�
 use Rattle.std.proofs.lemmas.Result.{err_from_is_err_and}
 use Rattle.lti_outside.specs.Traffic.{IsAtEnd}
 use Rattle.lti_outside.proofs.TrafficLemmas.{Moves-takes}
+use Rattle.http_wire.specs.declared.message.Answered.{Answered}
+use Rattle.http_wire.specs.declared.answer_head.AnswerFront.{AnswerFront}
 use Rattle.http_wire.specs.AnswerFront.{AnswerHeadTells}
 use Rattle.http_wire.proofs.FaultLemmas.{more_read}
-use Rattle.http_wire.proofs.AnswerLemmas.{answer_front_failed, answer_front_moves, answer_body_failed, answer_spelled}
+use Rattle.http_wire.proofs.AnswerLemmas.{answer_front_failed, answer_body_failed, answer_spelled}
+use Rattle.http_wire.proofs.ReadingLemmas.{front_moves}
 use Rattle.http_wire.proofs.wire.read_answer.Goals as goal
 
 pub returns-in_err-front : goal.returns-in_err-front
@@ -14,7 +17,7 @@ returns-in_err-front g c =
     let tells = subst (λ (x : List ℕ). AnswerHeadTells c.args.limits.now x (Err c.in_err-front.field-0.0)) c.get.ensures c.in_err-front.ensures in
     rw (p.1, p.2) (
       taken.0,
-      answer_front_moves c.args.limits.now c.in-Some.head.list taken.0 _ _ taken.1 c.in_err-front.field-0.0 tells,
+      front_moves Answered AnswerFront (AnswerHeadTells c.args.limits.now c.in-Some.head.list) (λ none. none) taken.0 _ _ taken.1 c.in_err-front.field-0.0 tells,
       answer_front_failed c.args.limits.now (c.args.intake.now ++ taken.0) c.in-Some.head.list c.take_head.new.intake c.take_head.new.intake _
           record { is = taken.2.2; is_head = taken.2.0; fits = taken.2.1 } c.in_err-front.field-0.0 tells,
     )

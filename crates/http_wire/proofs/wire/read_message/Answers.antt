@@ -3,10 +3,12 @@ use Rattle.http_wire.specs.declared.message.Request.{Request}
 use Rattle.std.proofs.lemmas.Result.{err_from_is_err_and}
 use Rattle.lti_outside.specs.Traffic.{IsAtEnd}
 use Rattle.lti_outside.proofs.TrafficLemmas.{Moves-takes}
+use Rattle.http_wire.specs.declared.head.Front.{Front}
 use Rattle.http_wire.specs.Front.{HeadTells}
 use Rattle.http_wire.specs.Taking.{BodyTaken}
 use Rattle.http_wire.specs.Spelling.{HeadIn}
-use Rattle.http_wire.proofs.FaultLemmas.{head_failed, front_failed, front_moves, body_failed, spelled, more_read}
+use Rattle.http_wire.proofs.FaultLemmas.{head_failed, front_failed, body_failed, spelled, more_read}
+use Rattle.http_wire.proofs.ReadingLemmas.{front_moves}
 use Rattle.http_wire.proofs.wire.read_message.Goals as goal
 
 pub returns-in_err-head-clause-bytes : goal.returns-in_err-head-clause-bytes
@@ -22,7 +24,7 @@ returns-in_err-front-clause-bytes g c =
     let tells = subst (λ (x : List ℕ). HeadTells c.args.limits.now x (Err c.in_err-front.field-0.0)) c.get.ensures c.in_err-front.ensures in
     rw (p.1, p.2) (
       taken.0,
-      front_moves (Option Request) c.args.limits.now c.in-Some.head.list taken.0 _ _ taken.1 c.in_err-front.field-0.0 tells,
+      front_moves (Option Request) Front (HeadTells c.args.limits.now c.in-Some.head.list) (λ none. none) taken.0 _ _ taken.1 c.in_err-front.field-0.0 tells,
       front_failed c.args.limits.now (c.args.intake.now ++ taken.0) c.in-Some.head.list c.take_head.new.intake _
           record { is = taken.2.2; is_head = taken.2.0; fits = taken.2.1 } c.in_err-front.field-0.0 tells,
     )

@@ -1,5 +1,5 @@
 use Rattle.std.proofs.Common.{◌≡◌, true, rules}
-use Rattle.lti_consumer.specs.Outcomes.{is_of_outcomes}
+use Rattle.lti_asks.specs.Outcomes.{is_of_outcomes}
 use Rattle.lti_consumer.proofs.outcome_tests.answer.Goals as goal
 
 pub told-requires : goal.told-requires

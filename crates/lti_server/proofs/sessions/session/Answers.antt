@@ -2,10 +2,10 @@ use Rattle.std.proofs.Common.{◌++◌, ◌∷◌, List, [], refl, sym, ap, ◌�
 use Rattle.lti_outside.specs.Traffic.{Fault, Moves, no_fault, write_fault}
 use Rattle.lti_outside.proofs.TrafficLemmas.{Moves-same, Moves-gives}
 use Rattle.lti_server.specs.State.{SessionState}
-use Rattle.lti_server.specs.Exchange.{Member}
-use Rattle.lti_server.specs.History.{Leads}
+use Rattle.lti_machine.specs.History.{Member, Leads, Decides}
+use Rattle.lti_machine.proofs.HistoryLemmas.{leads_push}
 use Rattle.lti_server.specs.Talk.{waiting, ended}
-use Rattle.lti_server.proofs.TalkLemmas.{Talks-none, Spoken-then, Spoken-caller, Talks-whole, Runs-count, told_ok, told_cut, Leads-push}
+use Rattle.lti_server.proofs.TalkLemmas.{Talks-none, Spoken-then, Spoken-caller, Talks-whole, Runs-count, told_ok, told_cut}
 use Rattle.lti_server.proofs.RenderLemmas.{answer_owed}
 use Rattle.lti_server.proofs.sessions.session.Goals as goal
 
@@ -37,7 +37,7 @@ returns-in-End g c =
       told = before.0 ++ [];
       fault = whole.fault;
       moves = whole.moves;
-      answered = subst (λ (ms : List Member). Leads c.args.limits.now.window c.args.solo.now ms c.calls.solo) (sym (append-nil before.0)) before.2;
+      answered = subst (λ (ms : List Member). Leads (Decides c.args.limits.now.window) c.args.solo.now ms c.calls.solo) (sym (append-nil before.0)) before.2;
       transcript = Talks-whole _ _ _ _ _ _ _ _ _ whole.talks;
     }
 
@@ -47,14 +47,14 @@ returns-in-Err g c =
     let now = Spoken-caller _ _ _ _ _ _ _ _ _ _ _ _ c.calls.invariant.caller c.in-Call.ensures.talk in
     let asked = Spoken-then _ _ _ _ _ _ _ before.0 [] (waiting c.in-Call.call) before.1 now in
     let cut = c.in-Err.ensures.cut.2 in
-    let led = subst (λ (ms : List Member). Leads c.args.limits.now.window c.args.solo.now ms c.calls.solo) (sym (append-nil before.0)) before.2 in
+    let led = subst (λ (ms : List Member). Leads (Decides c.args.limits.now.window) c.args.solo.now ms c.calls.solo) (sym (append-nil before.0)) before.2 in
     record {
       read = asked.read;
       written = asked.written ++ cut.front;
-      told = (before.0 ++ []) ++ record { call = c.in-Call.call; reply = c.answer-reply.result } ∷ [];
+      told = (before.0 ++ []) ++ (c.in-Call.call, c.answer-reply.result) ∷ [];
       fault = write_fault;
       moves = Moves-gives (subst (λ (f : Fault). Moves (g.L.Outside.traffic c.args.link.now) (g.L.Outside.traffic c.ask.new.link) asked.read asked.written f) asked.talks.stage_is.0 asked.moves) cut.moves;
-      answered = rw c.answer-reply.ensures.kept (Leads-push _ _ _ _ _ _ led c.answer-reply.ensures.decided);
+      answered = leads_push (Decides c.args.limits.now.window) _ _ _ _ _ _ led (c.answer-reply.ensures.decided, c.answer-reply.ensures.kept);
       transcript = Talks-whole _ _ _ _ _ _ _ _ _ (told_cut _ _ _ _ _ c.tell.new.self _ _ _ _ _ _ _ _ _ asked.talks c.in-Err.ensures.cut.1 refl cut.proper c.in-Err.ensures.err);
     }
 
@@ -70,10 +70,10 @@ calls-preserved g c =
     let before = c.calls.invariant.talk in
     let now = Spoken-caller _ _ _ _ _ _ _ _ _ _ _ _ c.calls.invariant.caller c.in-Call.ensures.talk in
     let asked = Spoken-then _ _ _ _ _ _ _ before.0 [] (waiting c.in-Call.call) before.1 now in
-    let led = subst (λ (ms : List Member). Leads c.args.limits.now.window c.args.solo.now ms c.calls.solo) (sym (append-nil before.0)) before.2 in
+    let led = subst (λ (ms : List Member). Leads (Decides c.args.limits.now.window) c.args.solo.now ms c.calls.solo) (sym (append-nil before.0)) before.2 in
     record {
       talk = (
-        (before.0 ++ []) ++ record { call = c.in-Call.call; reply = c.answer-reply.result } ∷ [],
+        (before.0 ++ []) ++ (c.in-Call.call, c.answer-reply.result) ∷ [],
         record {
           read = asked.read;
           written = asked.written ++ c.in-Ok.ensures.told.0;
@@ -81,7 +81,7 @@ calls-preserved g c =
           moves = Moves-gives (subst (λ (f : Fault). Moves (g.L.Outside.traffic c.args.link.now) (g.L.Outside.traffic c.ask.new.link) asked.read asked.written f) asked.talks.stage_is.0 asked.moves) c.in-Ok.ensures.told.2;
           talks = told_ok _ _ _ _ _ _ _ _ _ _ _ _ _ _ _ asked.talks c.in-Ok.ensures.told.1 refl refl c.in-Ok.ensures.ok;
         },
-        rw c.answer-reply.ensures.kept (Leads-push _ _ _ _ _ _ led c.answer-reply.ensures.decided),
+        leads_push (Decides c.args.limits.now.window) _ _ _ _ _ _ led (c.answer-reply.ensures.decided, c.answer-reply.ensures.kept),
       );
       caller = ap (λ (s : SessionState). s.caller) c.in-Ok.ensures.ok ∙ c.ask.ensures.caller ∙ c.calls.invariant.caller;
     }

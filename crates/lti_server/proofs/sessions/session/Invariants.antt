@@ -1,6 +1,5 @@
 use Rattle.std.proofs.Common.{◌≡◌, ◌-◌, List, [], false, None}
-use Rattle.lti_server.specs.Exchange.{Member}
-use Rattle.lti_server.specs.History.{Leads}
+use Rattle.lti_machine.specs.History.{Member, Leads, Decides}
 use Rattle.lti_server.specs.Talk.{Spoken, answered}
 use Rattle.lti_server.proofs.sessions.session.Given as goal
 
@@ -11,7 +10,7 @@ invariant-calls g l = record {
       × Spoken record { limits = l.fn.limits; caller = 0; keys = l.fn.settings.keys; scheme = l.fn.settings.scheme; clock = g.C.Clock.tells l.fn.clock }
       (g.L.Outside.traffic l.fn.link) (g.L.Outside.traffic l.link)
       record { kept = []; caller = 0; count = 0; over = false; pending = None; ended = false } l.session told answered
-      × Leads l.fn.limits.window l.fn.solo told l.solo;
+      × Leads (Decides l.fn.limits.window) l.fn.solo told l.solo;
   caller : l.session.caller ≡ 0;
 }
 

@@ -1,41 +1,43 @@
-use Rattle.std.proofs.Common.{Ok, Err, refl, rules}
-use Rattle.lti_server.specs.Command.{IsCheck, IsIssue, IsLaunch, IsPassback, IsGrades, texts}
-use Rattle.lti_server.specs.CommandView.{command_of, issue_of, launch_of, passback_of, grades_of}
-use Rattle.lti_server.specs.Done.IsDone.{check, issue, launch, passback, grades}
-use Rattle.lti_server.proofs.WordLemmas.{IsCheck-range}
+use Rattle.std.proofs.Common.{[], None, refl, rules}
+use Rattle.lti_words.specs.Command.{IsCheck, AsksAnswer, IsIssue, IsLaunch, IsPassback, IsGrades, texts}
+use Rattle.lti_words.specs.Command.CommandValue.{check as check_command, answer as answer_command, issue as issue_command, launch as launch_command, passback as passback_command, grades as grades_command}
+use Rattle.lti_words.specs.CommandView.{check_of, issue_of, launch_of, passback_of, grades_of}
+use Rattle.lti_words.proofs.WordLemmas.{IsCheck-range}
+use Rattle.lti_settings.specs.Ladder.Ladder.{own}
+use Rattle.lti_server.specs.Doing.Ran.{does}
 use Rattle.lti_server.proofs.top.perform.Goals as goal
 
-pub check_lines-requires-clause-range : goal.check_lines-requires-clause-range
-check_lines-requires-clause-range g c =
-    let asked : IsCheck (texts c.args.words.now) (command_of c.in-Ok-Some-Check.check) = search rules in
-    IsCheck-range (texts c.args.words.now) (command_of c.in-Ok-Some-Check.check) asked
+pub check-requires-clause-range : goal.check-requires-clause-range
+check-requires-clause-range g c =
+    let asked : IsCheck (texts c.args.words.now) (check_of c.in-Ok-Some-Check.asked) = search rules in
+    IsCheck-range (texts c.args.words.now) (check_of c.in-Ok-Some-Check.asked) asked
 
-pub returns-in-Ok : goal.returns-in-Ok
-returns-in-Ok g c =
-    let asked : IsCheck (texts c.args.words.now) (command_of c.in-Ok-Some-Check.check) = search rules in
-    check (command_of c.in-Ok-Some-Check.check) asked (record { end = Ok tt; status_is = refl; checks = c.in-Ok.ensures }) refl refl
+pub returns-in-Ok-Some-Check-clause-ran : goal.returns-in-Ok-Some-Check-clause-ran
+returns-in-Ok-Some-Check-clause-ran g c =
+    let asked : IsCheck (texts c.args.words.now) (check_of c.in-Ok-Some-Check.asked) = search rules in
+    does (check_command (check_of c.in-Ok-Some-Check.asked)) asked (own None (refl, refl) [] refl c.check.ensures)
 
-pub returns-in-Ok-Some-Check : goal.returns-in-Ok-Some-Check
-returns-in-Ok-Some-Check g c =
-    let asked : IsCheck (texts c.args.words.now) (command_of c.in-Ok-Some-Check.check) = search rules in
-    check (command_of c.in-Ok-Some-Check.check) asked (record { end = Err c.in-Err-check_lines.stop; status_is = c.status.ensures; checks = c.in-Err-check_lines.ensures }) refl refl
+pub returns-in-Ok-Some-Answer-clause-ran : goal.returns-in-Ok-Some-Answer-clause-ran
+returns-in-Ok-Some-Answer-clause-ran g c =
+    let asked : AsksAnswer (texts c.args.words.now) = search rules in
+    does answer_command asked (c.answer.ensures (g.R.Random.tells c.args.random.now))
 
-pub returns-in-Ok-Some-Issue : goal.returns-in-Ok-Some-Issue
-returns-in-Ok-Some-Issue g c =
-    let asked : IsIssue (texts c.args.words.now) (issue_of c.in-Ok-Some-Issue.issue) = search rules in
-    issue (issue_of c.in-Ok-Some-Issue.issue) asked (c.issue_command.ensures _ _ _) refl
+pub returns-in-Ok-Some-Issue-clause-ran : goal.returns-in-Ok-Some-Issue-clause-ran
+returns-in-Ok-Some-Issue-clause-ran g c =
+    let asked : IsIssue (texts c.args.words.now) (issue_of c.in-Ok-Some-Issue.asked) = search rules in
+    does (issue_command (issue_of c.in-Ok-Some-Issue.asked)) asked (c.issue.ensures (g.I.Outside.traffic c.args.ends.now) (g.R.Random.tells c.args.random.now))
 
-pub returns-in-Ok-Some-Launch : goal.returns-in-Ok-Some-Launch
-returns-in-Ok-Some-Launch g c =
-    let asked : IsLaunch (texts c.args.words.now) (launch_of c.in-Ok-Some-Launch.launch) = search rules in
-    launch (launch_of c.in-Ok-Some-Launch.launch) asked c.launch_command.ensures
+pub returns-in-Ok-Some-Launch-clause-ran : goal.returns-in-Ok-Some-Launch-clause-ran
+returns-in-Ok-Some-Launch-clause-ran g c =
+    let asked : IsLaunch (texts c.args.words.now) (launch_of c.in-Ok-Some-Launch.asked) = search rules in
+    does (launch_command (launch_of c.in-Ok-Some-Launch.asked)) asked c.launch.ensures
 
-pub returns-in-Ok-Some-Passback : goal.returns-in-Ok-Some-Passback
-returns-in-Ok-Some-Passback g c =
-    let asked : IsPassback (texts c.args.words.now) (passback_of c.in-Ok-Some-Passback.passback) = search rules in
-    passback (passback_of c.in-Ok-Some-Passback.passback) asked c.passback_command.ensures
+pub returns-in-Ok-Some-Passback-clause-ran : goal.returns-in-Ok-Some-Passback-clause-ran
+returns-in-Ok-Some-Passback-clause-ran g c =
+    let asked : IsPassback (texts c.args.words.now) (passback_of c.in-Ok-Some-Passback.asked) = search rules in
+    does (passback_command (passback_of c.in-Ok-Some-Passback.asked)) asked c.passback.ensures
 
-pub returns : goal.returns
-returns g c =
-    let asked : IsGrades (texts c.args.words.now) (grades_of c.in-Ok-Some-Grades.grades) = search rules in
-    grades (grades_of c.in-Ok-Some-Grades.grades) asked (c.grades_command.ensures _ _ _) refl refl
+pub returns-in-Ok-Some-Grades-clause-ran : goal.returns-in-Ok-Some-Grades-clause-ran
+returns-in-Ok-Some-Grades-clause-ran g c =
+    let asked : IsGrades (texts c.args.words.now) (grades_of c.in-Ok-Some-Grades.asked) = search rules in
+    does (grades_command (grades_of c.in-Ok-Some-Grades.asked)) asked (c.grades.ensures (g.S.Outside.traffic c.args.settings.now) (g.R.Random.tells c.args.random.now))

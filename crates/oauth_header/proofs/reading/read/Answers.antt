@@ -5,7 +5,8 @@ use Rattle.oauth_header.specs.Pieces.{piece_len}
 use Rattle.oauth_header.specs.Header.{AreItems, pairs_in, items_of, header_pairs}
 use Rattle.oauth_header.specs.Faults.{IsFaultOf}
 use Rattle.oauth_header.proofs.PieceLemmas.{items_from_cut, items_from_past}
-use Rattle.oauth_header.proofs.HeaderLemmas.{AreItems-append, pairs_in-append, IsFaultOf-within, IfErr_carried}
+use Rattle.oauth_header.proofs.HeaderLemmas.{AreItems-append, pairs_in-append, IsFaultOf-within}
+use Rattle.oauth_header.proofs.ResultLemmas.{IfErr_carried}
 use Rattle.oauth_header.proofs.reading.read.Goals as goal
 
 pub returns-in_err-read_piece-clause-bad : goal.returns-in_err-read_piece-clause-bad

@@ -12,18 +12,16 @@ use Rattle.oauth_request.proofs.SigningLemmas.{can}
 use Rattle.oauth_request.proofs.signing.sign_body.Goals as goal
 
 pub write-requires : goal.write-requires
-unfolding body_hash_name signature_name
-write-requires c = rw (c.in_ok-push-2.ensures, c.in_ok-push.ensures, c.in_ok-push_protocol.ensures, c.new-list.ensures) (can _ _ _ _ _)
+write-requires c = rw (c.in_ok-push_field-2.ensures, c.in_ok-push_field.ensures, c.in_ok-push_protocol.ensures, c.new-list.ensures) (can _ _ _ _ _)
 
 pub returns : goal.returns
-unfolding body_hash_name signature_name
 returns c =
-    let listed : c.push.new.list ≡ body_pairs c.args.key.now c.args.moment c.args.nonce.now c.args.body.list
-    = c.in_ok-push.ensures
+    let listed : c.push_field.new.list ≡ body_pairs c.args.key.now c.args.moment c.args.nonce.now c.args.body.list
+    = c.in_ok-push_field.ensures
     ∙ (λ i. (c.in_ok-push_protocol.ensures ∙ ap (λ (xs : List Pair). xs ++ protocol_pairs c.args.key.now c.args.moment c.args.nonce.now) c.new-list.ensures) i
     ++ pair body_hash_name ((c.get-2.ensures ∙ c.in_ok-sum.ensures ∙ ap (encode_of standard) (c.finish.ensures c.get.result.now (c.feed.ensures [] c.start-hash.ensures) ∙ ap sha1 c.get.ensures)) i) ∷ []) in
-    let all : c.push-2.new.list ≡ body_pairs c.args.key.now c.args.moment c.args.nonce.now c.args.body.list ++ pair signature_name c.in_ok-text.text ∷ []
-    = c.in_ok-push-2.ensures ∙ (λ i. listed i ++ pair signature_name (c.get-3.ensures i) ∷ []) in
+    let all : c.push_field-2.new.list ≡ body_pairs c.args.key.now c.args.moment c.args.nonce.now c.args.body.list ++ pair signature_name c.in_ok-text.text ∷ []
+    = c.in_ok-push_field-2.ensures ∙ (λ i. listed i ++ pair signature_name (c.get-3.ensures i) ∷ []) in
     record {
       text = c.in_ok-text.text;
       signature = subst (λ (xs : List Pair). IsSignatureOf (parts_of c.args.url.now) xs c.args.secret.now c.in_ok-text.text) listed c.in_ok-text.ensures;

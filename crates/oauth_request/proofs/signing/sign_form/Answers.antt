@@ -6,7 +6,6 @@ use Rattle.oauth_request.specs.Signing.{form_pairs, pair, IsSignatureOf, protoco
 use Rattle.oauth_request.proofs.signing.sign_form.Goals as goal
 
 pub returns : goal.returns
-unfolding signature_name
 returns c =
     let listed : c.push.new.list ≡ form_pairs c.args.fields.now c.args.key.now c.args.moment c.args.nonce.now
     = c.in_ok-push.ensures
@@ -15,5 +14,5 @@ returns c =
     record {
       text = c.in_ok-text.text;
       signature = subst (λ (xs : List Pair). IsSignatureOf (parts_of c.args.url.now) xs c.args.secret.now c.in_ok-text.text) listed c.in_ok-text.ensures;
-      is = c.in_ok-push-2.ensures ∙ (λ i. listed i ++ pair signature_name (c.get.ensures i) ∷ []);
+      is = c.in_ok-push_field.ensures ∙ (λ i. listed i ++ pair signature_name (c.get.ensures i) ∷ []);
     }

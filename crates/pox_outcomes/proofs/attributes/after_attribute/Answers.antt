@@ -1,11 +1,12 @@
-use Rattle.std.proofs.Common.{◌≡◌, ◌-◌, ◌≤◌, ℕ, List, length, take, sym, ap, ◌∙◌, subst, codes}
-use Rattle.pox_outcomes.specs.Language.{Any, Reads, StopsAt}
-use Rattle.pox_outcomes.specs.Markup.{IsMarkup}
-use Rattle.pox_outcomes.specs.Attributes.{after_name, is_xmlns, IsAttribute, IsValue}
-use Rattle.pox_outcomes.specs.Stops.{IsStop}
+use Rattle.std.proofs.Common.{◌++◌, ℕ, List, sym, ap, ◌∙◌, subst, refl, codes}
+use Rattle.pox_outcomes.specs.Language.{StopsAt, Reads}
+use Rattle.pox_outcomes.specs.Attributes.{IsValue, is_xmlns}
 use Rattle.pox_outcomes.proofs.CarriedLemmas.{carried}
+use Rattle.pox_outcomes.proofs.LanguageLemmas.{reads_as, reads_then}
+use Rattle.pox_outcomes.proofs.SequenceLemmas.{stops_first_part, stops_second_part}
+use Rattle.pox_outcomes.proofs.MarkupLemmas.{free_markup}
 use Rattle.pox_outcomes.proofs.Utf8Lemmas.{front_taken, rest_fits}
-use Rattle.pox_outcomes.proofs.AttributeLemmas.{attribute_fails, named_of, attribute_stops_equals, attribute_stops_value, attribute_reads, quoted_stops, quoted_behind, quote_is, IsQuote}
+use Rattle.pox_outcomes.proofs.AttributeLemmas.{IsQuote, quote_is, attribute_fails, named_of, attribute_stops, quoted_one, quoted_stops, quoted_behind, attribute_reads}
 use Rattle.pox_outcomes.proofs.attributes.after_attribute.Goals as goal
 
 pub returns-then-not-begins_name-clause-stops : goal.returns-then-not-begins_name-clause-stops
@@ -13,53 +14,34 @@ returns-then-not-begins_name-clause-stops c = attribute_fails c.args.bytes.now (
 
 pub slice_bounds-is_xmlns-count : goal.slice_bounds-is_xmlns-count
 slice_bounds-is_xmlns-count c =
-    let bytes = c.args.bytes.now in
-    let named = named_of bytes (sym c.begins_name.ensures ∙ c.if-not-begins_name.false) in
-    subst (λ (t : List ℕ). length t ≤ length bytes) (sym c.after_name-behind.ensures) (rest_fits bytes named.name (after_name bytes) named.are)
+    let named = named_of c.args.bytes.now (sym c.begins_name.ensures ∙ c.if-not-begins_name.false) in
+    rest_fits _ named.name _ (named.are ∙ ap (λ (t : List ℕ). named.name ++ t) (sym c.after_name-behind.ensures))
 
 pub returns-in_err-rest-clause-stops : goal.returns-in_err-rest-clause-stops
 returns-in_err-rest-clause-stops c =
-    let bytes = c.args.bytes.now in
     let start = sym c.begins_name.ensures ∙ c.if-not-begins_name.false in
-    let stop = c.in_err-rest.field-0.0 in
-    let s = subst (λ (t : List ℕ). StopsAt (IsMarkup (codes " =")) t stop.left) c.after_name-behind.ensures c.in_err-rest.ensures.stops in
-    carried (IsStop (Any IsAttribute) bytes) c.from_residual.result stop c.from_residual.ensures.1 (attribute_stops_equals bytes start stop.left s)
+    carried _ _ _ c.from_residual.ensures.1 (attribute_stops start c.after_name-behind.ensures (stops_first_part (codes "''", quoted_one) c.in_err-rest.ensures.stops))
 
 pub returns-in_err-place-clause-stops : goal.returns-in_err-place-clause-stops
 returns-in_err-place-clause-stops c =
-    let bytes = c.args.bytes.now in
     let start = sym c.begins_name.ensures ∙ c.if-not-begins_name.false in
-    let rest = c.in_ok-rest.rest.now in
-    let stop = c.in_err-place.field-0.0 in
-    let equals = subst (λ (t : List ℕ). Reads (IsMarkup (codes " =")) t rest) c.after_name-behind.ensures c.in_ok-rest.ensures.reads in
-    carried (IsStop (Any IsAttribute) bytes) c.from_residual-in_err-place.result stop c.from_residual-in_err-place.ensures.1
-    (attribute_stops_value bytes start rest stop.left equals (quoted_stops rest stop.left c.in_err-place.ensures.stops))
+    carried _ _ _ c.from_residual-in_err-place.ensures.1
+    (attribute_stops start c.after_name-behind.ensures (stops_second_part (free_markup (codes " =") refl) c.in_ok-rest.ensures.reads (quoted_stops _ _ c.in_err-place.ensures.stops)))
 
 pub after_value-requires : goal.after_value-requires
 after_value-requires c = subst IsQuote (sym c.quote_at.ensures) (quote_is c.in_ok-place.place c.in_ok-place.ensures.place)
 
 pub returns-in_err-rest-2-clause-stops : goal.returns-in_err-rest-2-clause-stops
 returns-in_err-rest-2-clause-stops c =
-    let bytes = c.args.bytes.now in
     let start = sym c.begins_name.ensures ∙ c.if-not-begins_name.false in
-    let rest = c.in_ok-rest.rest.now in
-    let last = c.in_ok-place.rest.now in
-    let stop = c.in_err-rest-2.field-0.0 in
-    let equals = subst (λ (t : List ℕ). Reads (IsMarkup (codes " =")) t rest) c.after_name-behind.ensures c.in_ok-rest.ensures.reads in
-    let value = subst (λ (q : ℕ). StopsAt (IsValue q) last stop.left) c.quote_at.ensures c.in_err-rest-2.ensures.stops in
-    carried (IsStop (Any IsAttribute) bytes) c.from_residual-in_err-rest-2.result stop c.from_residual-in_err-rest-2.ensures.1
-    (attribute_stops_value bytes start rest stop.left equals (quoted_behind c.in_ok-place.place rest last stop.left c.in_ok-place.ensures.place c.in_ok-place.ensures.reads value))
+    let value = subst (λ (q : ℕ). StopsAt (IsValue q) c.in_ok-place.rest.now c.in_err-rest-2.field-0.0.left) c.quote_at.ensures c.in_err-rest-2.ensures.stops in
+    carried _ _ _ c.from_residual-in_err-rest-2.ensures.1
+    (attribute_stops start c.after_name-behind.ensures (stops_second_part (free_markup (codes " =") refl) c.in_ok-rest.ensures.reads (quoted_behind _ _ _ _ c.in_ok-place.ensures.place c.in_ok-place.ensures.reads value)))
 
 pub returns-clause-reads : goal.returns-clause-reads
 returns-clause-reads c =
-    let bytes = c.args.bytes.now in
-    let start = sym c.begins_name.ensures ∙ c.if-not-begins_name.false in
-    let named = named_of bytes start in
-    let rest = c.in_ok-rest.rest.now in
-    let last = c.in_ok-place.rest.now in
-    let behind = c.in_ok-rest-2.rest.now in
-    let equals = subst (λ (t : List ℕ). Reads (IsMarkup (codes " =")) t rest) c.after_name-behind.ensures c.in_ok-rest.ensures.reads in
-    let value = subst (λ (q : ℕ). Reads (IsValue q) last behind) c.quote_at.ensures c.in_ok-rest-2.ensures.reads in
-    let taken : take (length bytes - length c.after_name-behind.result.now) bytes ≡ named.name =
-    ap (λ (t : List ℕ). take (length bytes - length t) bytes) c.after_name-behind.ensures ∙ front_taken bytes named.name (after_name bytes) named.are in
-    attribute_reads bytes start rest last behind c.in_ok-place.place c.is_xmlns-namespace.result c.in_ok-place.ensures.place (c.is_xmlns-namespace.ensures ∙ ap is_xmlns taken) equals c.in_ok-place.ensures.reads value
+    let named = named_of c.args.bytes.now (sym c.begins_name.ensures ∙ c.if-not-begins_name.false) in
+    let are = named.are ∙ ap (λ (t : List ℕ). named.name ++ t) (sym c.after_name-behind.ensures) in
+    let value = subst (λ (q : ℕ). Reads (IsValue q) c.in_ok-place.rest.now c.in_ok-rest-2.rest.now) c.quote_at.ensures c.in_ok-rest-2.ensures.reads in
+    attribute_reads named _ are (c.is_xmlns-namespace.ensures ∙ ap is_xmlns (front_taken _ named.name _ are))
+    (reads_then c.in_ok-rest.ensures.reads (reads_as (λ x h. (c.in_ok-place.place, c.in_ok-place.ensures.place, h)) (reads_then c.in_ok-place.ensures.reads value)))

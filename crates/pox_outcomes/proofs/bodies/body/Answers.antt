@@ -1,42 +1,20 @@
-use Rattle.std.proofs.Common.{◌≡◌, ℕ, List, Bor, subst, arith}
-use Rattle.std.proofs.lemmas.Result.{IfOk-weaker, IfErr-weaker}
-use Rattle.lti_outside.specs.declared.text.Text.{Text}
-use Rattle.pox_outcomes.specs.Language.{Any, Reads}
-use Rattle.pox_outcomes.specs.Markup.{IsMarkup, word_at}
+use Rattle.std.proofs.Common.{refl, codes}
+use Rattle.pox_outcomes.specs.Body.{IsContent}
 use Rattle.pox_outcomes.specs.Elements.{tag_starts}
-use Rattle.pox_outcomes.specs.Body.{IsContent, IsBody}
-use Rattle.pox_outcomes.specs.Stops.{IsHalt}
-use Rattle.pox_outcomes.specs.declared.stops.Halt.{Halt}
-use Rattle.pox_outcomes.specs.declared.stops.Halt.TheVariants.{Stopped}
-use Rattle.pox_outcomes.proofs.CarriedLemmas.{carried, halts}
-use Rattle.pox_outcomes.proofs.ElementLemmas.{tag_stops_start, tag_stops_inside, tag_reads_inside}
-use Rattle.pox_outcomes.proofs.BodyLemmas.{content_one}
+use Rattle.pox_outcomes.proofs.CarriedLemmas.{carried, halts_on, reads_on, second_found}
+use Rattle.pox_outcomes.proofs.TagLemmas.{tag_stops_start, tag_stops_inside, tag_reads_inside}
+use Rattle.pox_outcomes.proofs.BodyLemmas.{content_some}
 use Rattle.pox_outcomes.proofs.bodies.body.Goals as goal
 
 pub returns-in_err-place-clause-stops : goal.returns-in_err-place-clause-stops
-returns-in_err-place-clause-stops c =
-    let bytes = c.args.bytes.now in
-    let stop = c.in_err-place.field-0.0 in
-    carried (IsHalt (Any IsBody) bytes) c.from_residual.result (Stopped stop) c.from_residual.ensures.1 (tag_stops_start IsContent bytes stop.left content_one c.in_err-place.ensures.stops)
+returns-in_err-place-clause-stops c = carried _ _ _ c.from_residual.ensures.1 (tag_stops_start (codes " > <") refl IsContent content_some c.in_err-place.ensures.stops)
 
 pub returns-clause-reads : goal.returns-clause-reads
 returns-clause-reads c =
-    let bytes = c.args.bytes.now in
-    let rest = c.in_ok-place.rest.now in
-    let fewer = c.in_ok-place.ensures.place in
-    let other = c.if-place-eq0.false in
-    let one : c.in_ok-place.place ≡ 1 = omega arith in
-    let start = subst (λ (k : ℕ). Reads (IsMarkup (word_at tag_starts k)) bytes rest) one c.in_ok-place.ensures.reads in
-    IfOk-weaker c.content.result (λ (found : Text × Bor (List ℕ)). Reads (IsContent found.0) rest found.1.now) (λ (found : Text × Bor (List ℕ)). Reads (IsBody found.0) bytes found.1.now)
-    (λ found h. tag_reads_inside IsContent found.0 bytes rest found.1.now start h) c.content.ensures.reads
+    let start = second_found (tag_starts (codes " > <")) _ c.in_ok-place.ensures.place c.if-place-eq0.false c.in_ok-place.ensures.reads in
+    reads_on _ c.content.ensures.reads (λ score last h. tag_reads_inside (codes " > <") refl IsContent score start h)
 
 pub returns-clause-stops : goal.returns-clause-stops
 returns-clause-stops c =
-    let bytes = c.args.bytes.now in
-    let rest = c.in_ok-place.rest.now in
-    let fewer = c.in_ok-place.ensures.place in
-    let other = c.if-place-eq0.false in
-    let one : c.in_ok-place.place ≡ 1 = omega arith in
-    let start = subst (λ (k : ℕ). Reads (IsMarkup (word_at tag_starts k)) bytes rest) one c.in_ok-place.ensures.reads in
-    IfErr-weaker c.content.result (λ (halt : Halt). IsHalt (Any IsContent) rest halt) (λ (halt : Halt). IsHalt (Any IsBody) bytes halt)
-    (λ halt h. halts bytes rest halt (λ n s. tag_stops_inside IsContent bytes rest n start s) h) c.content.ensures.stops
+    let start = second_found (tag_starts (codes " > <")) _ c.in_ok-place.ensures.place c.if-place-eq0.false c.in_ok-place.ensures.reads in
+    halts_on _ c.content.ensures.stops (λ n s. tag_stops_inside (codes " > <") refl IsContent start s)

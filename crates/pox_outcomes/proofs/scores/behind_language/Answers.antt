@@ -1,35 +1,35 @@
+use Rattle.std.proofs.Common.{refl}
 use Rattle.pox_outcomes.specs.Language.{Any}
-use Rattle.pox_outcomes.specs.Scores.{IsBehindLanguage}
-use Rattle.pox_outcomes.specs.Stops.{IsHalt}
-use Rattle.pox_outcomes.specs.declared.stops.Halt.TheVariants.{Stopped}
+use Rattle.pox_outcomes.specs.Markup.{IsMarkup}
+use Rattle.pox_outcomes.specs.Leaves.{IsLeaf}
+use Rattle.pox_outcomes.specs.Scores.{IsTextString}
 use Rattle.pox_outcomes.proofs.CarriedLemmas.{carried, halts}
-use Rattle.pox_outcomes.proofs.ScoreLemmas.{language_stops_leaf, language_stops_word, language_stops_string, language_reads}
+use Rattle.pox_outcomes.proofs.LanguageLemmas.{reads_then}
+use Rattle.pox_outcomes.proofs.SequenceLemmas.{any_reads, free_once, behind_here, behind_on}
+use Rattle.pox_outcomes.proofs.MarkupLemmas.{free_markup}
+use Rattle.pox_outcomes.proofs.LeafLemmas.{leaf_once}
+use Rattle.pox_outcomes.proofs.ScoreLemmas.{language_end, string_word, Word, string_some, word_some}
 use Rattle.pox_outcomes.proofs.scores.behind_language.Goals as goal
 
 pub returns-in_err-rest-clause-stops : goal.returns-in_err-rest-clause-stops
 returns-in_err-rest-clause-stops c =
-    let halt = c.in_err-rest.field-0.0 in
-    let bytes = c.args.bytes.now in
     let closing = c.args.closing.now in
-    carried (IsHalt (Any (IsBehindLanguage closing)) bytes) c.from_residual.result halt c.from_residual.ensures.1 (halts bytes bytes halt (λ n s. language_stops_leaf closing bytes n s) c.in_err-rest.ensures.stops)
+    carried _ _ _ c.from_residual.ensures.1 (halts _ c.in_err-rest.ensures.stops (λ n s. behind_here (Any (IsLeaf language_end)) (Word closing) (word_some closing) s))
 
 pub returns-in_err-last-clause-stops : goal.returns-in_err-last-clause-stops
 returns-in_err-last-clause-stops c =
-    let stop = c.in_err-last.field-0.0 in
-    let bytes = c.args.bytes.now in
     let closing = c.args.closing.now in
-    carried (IsHalt (Any (IsBehindLanguage closing)) bytes) c.from_residual-in_err-last.result (Stopped stop) c.from_residual-in_err-last.ensures.1
-    (language_stops_word closing bytes c.in_ok-rest.field-0-0 c.in_ok-rest.rest.now stop.left c.in_ok-rest.ensures.reads c.in_err-last.ensures.stops)
+    let found = any_reads (IsLeaf language_end) _ c.in_ok-rest.ensures.reads in
+    carried _ _ _ c.from_residual-in_err-last.ensures.1
+    (behind_on (Any (IsLeaf language_end)) (Word closing) (free_once (leaf_once language_end refl)) found (behind_here (IsMarkup string_word) (IsTextString closing) (string_some closing) c.in_err-last.ensures.stops))
 
 pub returns-in_err-score-clause-stops : goal.returns-in_err-score-clause-stops
 returns-in_err-score-clause-stops c =
-    let halt = c.in_err-score.field-0.0 in
-    let bytes = c.args.bytes.now in
     let closing = c.args.closing.now in
-    let last = c.in_ok-last.last.now in
-    carried (IsHalt (Any (IsBehindLanguage closing)) bytes) c.from_residual-in_err-score.result halt c.from_residual-in_err-score.ensures.1
-    (halts bytes last halt (λ n s. language_stops_string closing bytes c.in_ok-rest.field-0-0 c.in_ok-rest.rest.now last n c.in_ok-rest.ensures.reads c.in_ok-last.ensures.reads s) c.in_err-score.ensures.stops)
+    let found = any_reads (IsLeaf language_end) _ c.in_ok-rest.ensures.reads in
+    carried _ _ _ c.from_residual-in_err-score.ensures.1
+    (halts _ c.in_err-score.ensures.stops (λ n s. behind_on (Any (IsLeaf language_end)) (Word closing) (free_once (leaf_once language_end refl)) found
+    (behind_on (IsMarkup string_word) (IsTextString closing) (free_markup string_word refl) c.in_ok-last.ensures.reads s)))
 
 pub returns-clause-reads : goal.returns-clause-reads
-returns-clause-reads c =
-    language_reads c.args.closing.now c.args.bytes.now c.in_ok-rest.field-0-0 c.in_ok-rest.rest.now c.in_ok-last.last.now c.in_ok-score.behind.now c.in_ok-score.score c.in_ok-rest.ensures.reads c.in_ok-last.ensures.reads c.in_ok-score.ensures.reads
+returns-clause-reads c = reads_then (any_reads (IsLeaf language_end) _ c.in_ok-rest.ensures.reads) (reads_then c.in_ok-last.ensures.reads c.in_ok-score.ensures.reads)

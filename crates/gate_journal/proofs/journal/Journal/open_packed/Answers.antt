@@ -1,122 +1,38 @@
-use Rattle.std.proofs.Common.{◌≡◌, ◌+◌, ◌≤◌, ℕ, Bool, not, true, false, List, length, sym, ap, subst, arith}
-use Rattle.lti_outside.proofs.DiskMomentLemmas.{LeavesOnly-then}
-use Rattle.gate_journal.specs.Half.{blocks, IsEither}
-use Rattle.gate_journal.specs.Doubt.{Stands, IsInDoubt}
+use Rattle.std.proofs.Common.{◌≡◌, ◌+◌, ◌-◌, ℕ, length, not, refl, ap, arith}
 use Rattle.gate_journal.specs.Journal.{place_of}
-use Rattle.gate_journal.specs.declared.doubt.Doubt.TheVariants.{Half}
-use Rattle.gate_journal.proofs.BlockLemmas.{length-packed_of}
-use Rattle.gate_journal.proofs.CommitLemmas.{on_err, doubt_left, doubt_moments}
-use Rattle.gate_journal.proofs.CompactLemmas.{packing_left, packing_moments, packed_staged, half_doubt, half_done}
+use Rattle.gate_journal.proofs.ChangeLemmas.{undone, doubted, done, unpacked, repacked}
+use Rattle.gate_journal.proofs.PackedLemmas.{packed_opens}
+use Rattle.gate_journal.proofs.StepLemmas.{unwritten, unopened, opened}
 use Rattle.gate_journal.proofs.journal.Journal.open_packed.Goals as goal
 
-pub returns-in_err-write_synced-clause-any_moment : goal.returns-in_err-write_synced-clause-any_moment
-returns-in_err-write_synced-clause-any_moment g c = λ payloads pieces is keeps.
+pub returns-in_err-write_step-clause-repacks : goal.returns-in_err-write_step-clause-repacks
+returns-in_err-write_step-clause-repacks g c = unpacked _ _ _ _ _ c.from_residual.ensures.0 refl (λ payloads pieces is keeps.
     let m = c.args.self.now in
-    let j = place_of m in
     let some = m.some in
-    let nine : 9 ≤ m.half = omega (arith, some) in
-    let disk = g.D.Disk in
-    let bytes = c.args.packed.now in
-    let gate = c.other_place-place.result in
-    let at = c.other_place-place.ensures in
-    let each = subst (λ (b : Bool). (image : List ℕ) → disk.may_leave m.disk image → Stands image j m.is_open b payloads) c.requires.shut keeps.each in
-    let first = packing_moments disk j m.is_open payloads bytes gate nine c.requires.fits at pieces m.disk c.write_synced.new.disk each c.write_synced.ensures.moments in
-    first
+    let r = c.requires in
+    let opens = packed_opens (place_of m) m.is_open m.may_open payloads c.other_place-place.result (omega (arith, some)) c.other_place-place.ensures r.shut c.args.generation pieces c.args.packed.now is r.fits c.ranges.generation.fits r.above in
+    let left = unwritten g.D.Disk opens m.disk c.write_step.new.disk keeps.each c.write_step.ensures.wrote in
+    undone _ _ _ payloads _ left.0 c.from_residual.ensures.0 r.settled (record { tells = keeps.tells; each = left.1 }))
 
-pub returns-in_err-write_synced-clause-clear : goal.returns-in_err-write_synced-clause-clear
-returns-in_err-write_synced-clause-clear g c = on_err c.from_residual.result _ (λ settled payloads keeps.
+pub returns-in_err-write_step-2-clause-repacks : goal.returns-in_err-write_step-2-clause-repacks
+returns-in_err-write_step-2-clause-repacks g c = unpacked _ _ _ _ _ c.from_residual-in_err-write_step-2.ensures.0 refl (λ payloads pieces is keeps.
     let m = c.args.self.now in
-    let j = place_of m in
     let some = m.some in
-    let nine : 9 ≤ m.half = omega (arith, some) in
-    let disk = g.D.Disk in
-    let bytes = c.args.packed.now in
-    let gate = c.other_place-place.result in
-    let at = c.other_place-place.ensures in
-    let each = subst (λ (b : Bool). (image : List ℕ) → disk.may_leave m.disk image → Stands image j m.is_open b payloads) c.requires.shut keeps.each in
-    let left = packing_left disk j m.is_open payloads bytes gate nine c.requires.fits at m.disk c.write_synced.new.disk each c.write_synced.ensures.crash in
-    record {
-      tells = keeps.tells;
-      each = subst (λ (b : Bool). (image : List ℕ) → disk.may_leave c.write_synced.new.disk image → Stands image j m.is_open b payloads) (sym c.requires.shut) left;
-    })
+    let r = c.requires in
+    let opens = packed_opens (place_of m) m.is_open m.may_open payloads c.other_place-place.result (omega (arith, some)) c.other_place-place.ensures r.shut c.args.generation pieces c.args.packed.now is r.fits c.ranges.generation.fits r.above in
+    let left = unopened g.D.Disk opens m.disk c.write_step.new.disk keeps.each c.write_step.ensures.wrote g.met.D.Disk.current m.room
+    (c.in_ok-write_step.ensures.synced keeps.tells) c.write_step-2.new.disk c.write_step-2.ensures.wrote in
+    doubted _ _ _ payloads _ left.0 c.from_residual-in_err-write_step-2.ensures.0 refl (record { tells = keeps.tells; each = λ image here. (c.args.generation, r.shut, left.1 image here) }))
 
-pub returns-in_err-write_synced-2-clause-any_moment : goal.returns-in_err-write_synced-2-clause-any_moment
-returns-in_err-write_synced-2-clause-any_moment g c = λ payloads pieces is keeps.
+pub returns-clause-repacks : goal.returns-clause-repacks
+returns-clause-repacks g c =
     let m = c.args.self.now in
-    let j = place_of m in
     let some = m.some in
-    let nine : 9 ≤ m.half = omega (arith, some) in
-    let disk = g.D.Disk in
-    let bytes = c.args.packed.now in
-    let gate = c.other_place-place.result in
-    let at = c.other_place-place.ensures in
-    let each = subst (λ (b : Bool). (image : List ℕ) → disk.may_leave m.disk image → Stands image j m.is_open b payloads) c.requires.shut keeps.each in
-    let first = packing_moments disk j m.is_open payloads bytes gate nine c.requires.fits at pieces m.disk c.write_synced.new.disk each c.write_synced.ensures.moments in
-    let staged = packed_staged disk j m.is_open payloads bytes gate nine c.requires.fits at g.met.D.Disk.current c.args.generation pieces m.disk c.write_synced.new.disk is c.ranges.generation.fits c.requires.above each
-    c.write_synced.ensures.torn m.room (c.in_ok-write_synced.ensures.written keeps.tells) c.in_ok-write_synced.ensures.durable in
-    let doubt = half_doubt disk j m.is_open payloads pieces c.args.generation gate nine at c.write_synced.new.disk staged in
-    let second = doubt_moments disk j m.is_open false payloads pieces Half gate nine at c.write_synced.new.disk c.write_synced-2.new.disk doubt c.write_synced-2.ensures.moments in
-    LeavesOnly-then disk m.disk c.write_synced.new.disk c.write_synced-2.new.disk (IsEither m.half payloads pieces) (IsEither m.half payloads pieces) (IsEither m.half payloads pieces) first second (λ image here. here) (λ image here. here)
-
-pub returns-in_err-write_synced-2-clause-doubt : goal.returns-in_err-write_synced-2-clause-doubt
-returns-in_err-write_synced-2-clause-doubt g c = λ doubtful payloads pieces is keeps.
-    let m = c.args.self.now in
-    let j = place_of m in
-    let some = m.some in
-    let nine : 9 ≤ m.half = omega (arith, some) in
-    let disk = g.D.Disk in
-    let bytes = c.args.packed.now in
-    let gate = c.other_place-place.result in
-    let at = c.other_place-place.ensures in
-    let each = subst (λ (b : Bool). (image : List ℕ) → disk.may_leave m.disk image → Stands image j m.is_open b payloads) c.requires.shut keeps.each in
-    let staged = packed_staged disk j m.is_open payloads bytes gate nine c.requires.fits at g.met.D.Disk.current c.args.generation pieces m.disk c.write_synced.new.disk is c.ranges.generation.fits c.requires.above each
-    c.write_synced.ensures.torn m.room (c.in_ok-write_synced.ensures.written keeps.tells) c.in_ok-write_synced.ensures.durable in
-    let doubt = half_doubt disk j m.is_open payloads pieces c.args.generation gate nine at c.write_synced.new.disk staged in
-    let left = doubt_left disk j m.is_open false payloads pieces Half gate nine at c.write_synced.new.disk c.write_synced-2.new.disk doubt c.write_synced-2.ensures.crash in
-    record {
-      tells = keeps.tells;
-      each = subst (λ (b : Bool). (image : List ℕ) → disk.may_leave c.write_synced-2.new.disk image → IsInDoubt Half image j m.is_open b payloads pieces) (sym c.requires.shut) left;
-    }
-
-pub returns-clause-any_moment : goal.returns-clause-any_moment
-returns-clause-any_moment g c = λ payloads pieces is keeps.
-    let m = c.args.self.now in
-    let j = place_of m in
-    let some = m.some in
-    let nine : 9 ≤ m.half = omega (arith, some) in
-    let disk = g.D.Disk in
-    let bytes = c.args.packed.now in
-    let gate = c.other_place-place.result in
-    let at = c.other_place-place.ensures in
-    let each = subst (λ (b : Bool). (image : List ℕ) → disk.may_leave m.disk image → Stands image j m.is_open b payloads) c.requires.shut keeps.each in
-    let first = packing_moments disk j m.is_open payloads bytes gate nine c.requires.fits at pieces m.disk c.write_synced.new.disk each c.write_synced.ensures.moments in
-    let staged = packed_staged disk j m.is_open payloads bytes gate nine c.requires.fits at g.met.D.Disk.current c.args.generation pieces m.disk c.write_synced.new.disk is c.ranges.generation.fits c.requires.above each
-    c.write_synced.ensures.torn m.room (c.in_ok-write_synced.ensures.written keeps.tells) c.in_ok-write_synced.ensures.durable in
-    let doubt = half_doubt disk j m.is_open payloads pieces c.args.generation gate nine at c.write_synced.new.disk staged in
-    let second = doubt_moments disk j m.is_open false payloads pieces Half gate nine at c.write_synced.new.disk c.write_synced-2.new.disk doubt c.write_synced-2.ensures.moments in
-    LeavesOnly-then disk m.disk c.write_synced.new.disk c.write_synced-2.new.disk (IsEither m.half payloads pieces) (IsEither m.half payloads pieces) (IsEither m.half payloads pieces) first second (λ image here. here) (λ image here. here)
-
-pub returns-clause-kept : goal.returns-clause-kept
-returns-clause-kept g c = λ payloads pieces is keeps.
-    let m = c.args.self.now in
-    let j = place_of m in
-    let some = m.some in
-    let nine : 9 ≤ m.half = omega (arith, some) in
-    let disk = g.D.Disk in
-    let bytes = c.args.packed.now in
-    let gate = c.other_place-place.result in
-    let at = c.other_place-place.ensures in
-    let each = subst (λ (b : Bool). (image : List ℕ) → disk.may_leave m.disk image → Stands image j m.is_open b payloads) c.requires.shut keeps.each in
-    let staged = packed_staged disk j m.is_open payloads bytes gate nine c.requires.fits at g.met.D.Disk.current c.args.generation pieces m.disk c.write_synced.new.disk is c.ranges.generation.fits c.requires.above each
-    c.write_synced.ensures.torn m.room (c.in_ok-write_synced.ensures.written keeps.tells) c.in_ok-write_synced.ensures.durable in
-    let doubt = half_doubt disk j m.is_open payloads pieces c.args.generation gate nine at c.write_synced.new.disk staged in
-    let size = c.write_synced.ensures.torn.size in
-    let room = m.room in
-    let done = half_done disk j m.is_open payloads pieces c.args.generation gate nine at g.met.D.Disk.current c.write_synced.new.disk c.write_synced-2.new.disk staged c.write_synced-2.ensures.torn (omega (arith, size, room))
-    (c.in_ok-write_synced-2.ensures.written keeps.tells) c.in_ok-write_synced-2.ensures.durable in
-    let ends : 9 + length (blocks pieces) ≡ length bytes = omega (arith, ap length is, length-packed_of c.args.generation pieces) in
-    record {
-      tells = keeps.tells;
-      each = subst (λ (n : ℕ). (image : List ℕ) → disk.may_leave c.write_synced-2.new.disk image
-          → Stands image (record { half = m.half; second = not m.is_second; generation = c.args.generation; gate = n }) true m.is_open pieces) ends done;
-    }
+    let r = c.requires in
+    let long = r.long in
+    let ends : length c.args.packed.now ≡ 9 + (length c.args.packed.now - 9) = omega (arith, long) in
+    repacked _ _ _ _ _ refl (ap (λ (k : ℕ). record { half = m.half; second = not m.is_second; generation = c.args.generation; gate = k }) ends) refl (λ payloads pieces is keeps.
+    let opens = packed_opens (place_of m) m.is_open m.may_open payloads c.other_place-place.result (omega (arith, some)) c.other_place-place.ensures r.shut c.args.generation pieces c.args.packed.now is r.fits c.ranges.generation.fits r.above in
+    let left = opened g.D.Disk opens m.disk c.write_step.new.disk keeps.each c.write_step.ensures.wrote g.met.D.Disk.current m.room
+    (c.in_ok-write_step.ensures.synced keeps.tells) c.write_step-2.new.disk c.write_step-2.ensures.wrote (c.in_ok-write_step-2.ensures.synced keeps.tells) in
+    done _ _ _ payloads _ left.0 refl refl (record { tells = keeps.tells; each = left.1 }))

@@ -19,7 +19,7 @@ messages-init g c = record {
 
 pub messages-preserved : goal.messages-preserved
 messages-preserved g c = record {
-  talk = Spoken-then _ _ _ _ _ _ _ [] [] answered c.messages.invariant.talk (Spoken-caller _ _ _ _ _ _ _ _ _ _ _ _ c.messages.invariant.caller c.in-Answered.ensures.talk);
+  talk = Spoken-then _ _ _ _ _ _ _ [] [] answered c.messages.invariant.talk (Spoken-caller _ _ _ _ _ _ _ _ _ _ _ _ c.messages.invariant.caller c.in-Refused.ensures.talk);
   caller = c.next.ensures.caller ∙ c.messages.invariant.caller;
 }
 

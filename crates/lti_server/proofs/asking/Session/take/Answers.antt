@@ -56,7 +56,7 @@ returns-in-Ok-reserve_answer-clause-talk g c =
     let signed = c.in-Ok-Asked.signed in
     let before = rw c.in-Ok-Asked.field-0-is at c.in-Ok-Asked.ensures in
     let takes = before.2 in
-    rw (sym c.self.view_is, c.call_of.ensures) (
+    rw (sym c.self.view_is, c.signed_call.ensures) (
       [],
       no_fault,
       Moves-same _,

@@ -1,0 +1,4 @@
+pub mod FeedLemmas
+pub mod LineLemmas
+pub mod SoFarLemmas
+pub mod TurnLemmas

@@ -1,0 +1,7 @@
+pub mod Checked
+pub mod CheckerView
+pub mod Lines
+pub mod Verdicts
+pub mod SoFar
+pub mod Ending
+pub mod Stops

@@ -1,5 +1,0 @@
-use Rattle.lti_consumer.proofs.OutcomeLemmas as lemmas
-use Rattle.lti_consumer.proofs.laws.accepted_is_told.Goals as goal
-
-pub returns : goal.returns
-returns c = lemmas.accepted_is_told

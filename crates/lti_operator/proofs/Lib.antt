@@ -1,0 +1,3 @@
+mod MadeLemmas
+pub mod ReportLemmas
+mod NotedLemmas

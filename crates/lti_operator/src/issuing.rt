@@ -1,0 +1,56 @@
+// The command `issue`: an id whose grades are taken from now on.
+ghost use Rattle.std.specs.Prelude.{◌≡◌, IfOk};
+ghost use Rattle.lti_words.specs.Command.{IsKey};
+ghost use Rattle.lti_words.specs.CommandView.{issue_of};
+ghost use Rattle.lti_operator.specs.Issuing as spec;
+ghost use Rattle.lti_operator.specs.Issuing.{IsIssued, issued_by};
+
+use lti_machine::{Action, Call, Reply, Solo};
+use lti_outside::{Clock, Limits, NoMemory, Text};
+use lti_words::{Issue, Status};
+use std::alloc::Global;
+
+// The operator's call that issues the id.
+fn issue_call(alloc: Global, issue: &Issue<'_>, moment: u64) -> Result<Call, NoMemory>
+    ensures { IfOk result (λ call. call ≡ spec.issue_call (issue_of issue.now) moment) }
+{
+    Ok(Call {
+        caller: 0,
+        moment,
+        key: Text::new(alloc, issue.key)?,
+        timestamp: 0,
+        nonce: Text::empty(alloc),
+        action: Action::Issue {
+            id: Text::new(alloc, issue.id)?,
+        },
+    })
+}
+
+// How the command ends, by the machine's reply.
+fn issued(reply: &Reply) -> Status
+    ensures { result ≡ issued_by reply.now }
+{
+    match reply {
+        Reply::Issued => Status::Done,
+        Reply::AlreadyIssued => Status::AlreadyIssued,
+        _ => Status::NoMemory,
+    }
+}
+
+/// Has the machine issue an id at a moment of the clock: it takes grades of the id from now on (`sourcedId`, LTI 1.1.1, section
+/// 6).
+pub fn issue_id<C: Clock>(
+    alloc: Global,
+    issue: &Issue<'_>,
+    solo: &mut Solo,
+    clock: &C,
+    limits: &Limits,
+) -> Status
+    requires { IsKey issue.now.key.now }
+    ensures { IsIssued (issue_of issue.now) (C.tells clock.now) limits.now.window solo.old solo.new result }
+{
+    let Ok(call) = issue_call(alloc, issue, clock.now()) else {
+        return Status::NoMemory;
+    };
+    issued(&solo.answer(call, limits))
+}

@@ -1,0 +1,4 @@
+pub mod Settings
+pub mod SettingsRead
+pub mod SettingsView
+pub mod Ladder

@@ -1,9 +1,0 @@
-use Rattle.std.proofs.Common.{◌≡◌, ◌≤◌, length}
-use Rattle.oauth_header.specs.Items.{trim_front}
-use Rattle.oauth_header.proofs.pieces.trim_front.Given as goal
-
-abbrev pub invariant-loop-rest : goal.invariant-loop-rest
-invariant-loop-rest l = (trim_front l.fn.text ≡ trim_front l.rest) × (length l.rest ≤ length l.fn.text)
-
-abbrev pub decreases-loop-rest : goal.decreases-loop-rest
-decreases-loop-rest l = length l.rest
