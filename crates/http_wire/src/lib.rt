@@ -35,5 +35,6 @@ pub use laws::{
 };
 pub use message::{Answered, Media, Request, Response};
 pub use response::{write_answer, write_response};
+pub use taking::Untapped;
 pub use wire::Wire;
 pub use written::write_request;

@@ -133,9 +133,9 @@ pub fn take_body<S: Source, T: Tap>(
     Ok(body)
 }
 
-// A tap that keeps nothing.
+/// A tap that keeps nothing.
 #[derive(Drop)]
-struct Untapped;
+pub struct Untapped;
 
 impl Tap for Untapped {
     ghost holds = { λ _ _. Unit {0} };

@@ -4,9 +4,11 @@ use Rattle.std.specs.Prelude.{⊤}
 use Rattle.std.specs.Str.Lines.{strip_carriage_return, lines}
 use Rattle.lti_outside.specs.declared.limits.Limits.{Limits}
 use Rattle.lti_machine.specs.declared.entry.Entry.{Entry}
+use Rattle.nonce_window.specs.Window.{WindowValue}
 use Rattle.lti_words.specs.Command.{CheckCommand}
 use Rattle.lti_check.specs.Lines.{HasNoNewline}
 use Rattle.lti_check.specs.Verdicts.{verdict_line, AnswersAll, AnswersBefore, AnswersFront}
+use Rattle.lti_check.specs.Noting.{HoldsCalls}
 use Rattle.lti_check.specs.SoFar.{IsSoFar, LedTo, LineTold, Feeds, Finishes, budget}
 use Rattle.lti_check.specs.declared.answered_lines.AnsweredLines.{AnsweredLines}
 use Rattle.lti_check.specs.declared.stop.Stop.{Stop}
@@ -22,6 +24,10 @@ module _ (command : CheckCommand) (limits : Limits) where
       (subst (λ (x : ℕ). IsSoFar command limits read written' held' x accepted) n
       (subst (λ (x : List ℕ). IsSoFar command limits read written' x count accepted) h
       (subst (λ (x : List ℕ). IsSoFar command limits read x held count accepted) w is)))
+
+  -- the same window, named otherwise
+  pub window_as : (before after : WindowValue) (accepted : List Entry) → before ≡ after → HoldsCalls limits.window before accepted → HoldsCalls limits.window after accepted
+  window_as before after accepted same holds = subst (λ (w : WindowValue). HoldsCalls limits.window w accepted) same holds
 
   Front-more : (at_end : Type 0) (read written s : List ℕ) → AnswersFront command limits ⊥ read written → AnswersFront command limits at_end (read ++ s) written
   Front-more at_end read written s front = record {
@@ -79,59 +85,65 @@ module _ (command : CheckCommand) (limits : Limits) where
   Feeds-same a = λ read written led. (subst (λ (r : List ℕ). LedTo command limits r written a) (sym (append-nil read)) led, omega arith)
 
   module _ (before mid after : AnsweredLines) (part : List ℕ) (none : HasNoNewline part) (pending : mid.pending ≡ before.pending) (count : mid.count ≡ before.count)
-      (solo : mid.solo ≡ before.solo) (held : mid.held.items ≡ []) where
+      (window : mid.window ≡ before.window) (held : mid.held.items ≡ []) where
     -- the line that is held and ends with this part and an LF was answered
     pub line_fed : (result : Result Unit Stop) → LineTold command limits mid (strip_carriage_return (before.held.items ++ part)) after result
         → Feeds command limits before (part ++ 10 ∷ []) after result
     line_fed (Ok _) told = λ read written led.
         let few : before.count < limits.calls = omega (arith, told.2) in
         let count_is : before.count + 1 ≡ after.count = ap (λ n. n + 1) (sym count) ∙ sym told.5 in
-        let held_is : [] ≡ after.held.items = sym held ∙ ap (λ h. h.items) (sym told.6) in (
-          IsSoFar-as
-              (append_assoc written (string_bytes before.pending) (verdict_line told.0) ∙ ap (λ p. written ++ p) (ap (λ p. string_bytes p ++ verdict_line told.0) (sym pending) ∙ sym told.4))
-              held_is
-              count_is
-              refl
-              (so_far.next command limits read (written ++ string_bytes before.pending) before.held.items before.count before.solo led part none told.0 after.solo told.1 few (rw solo at told.3)),
+        let held_is : [] ≡ after.held.items = sym held ∙ ap (λ h. h.items) (sym told.6) in
+        let judged = told.3 led.accepted (window_as before.window mid.window led.accepted (sym window) led.window) in (
+          record {
+            accepted = judged.0;
+            window = judged.2;
+            so_far = IsSoFar-as
+                (append_assoc written (string_bytes before.pending) (verdict_line told.0) ∙ ap (λ p. written ++ p) (ap (λ p. string_bytes p ++ verdict_line told.0) (sym pending) ∙ sym told.4))
+                held_is
+                count_is
+                refl
+                (so_far.next command limits read (written ++ string_bytes before.pending) before.held.items before.count led.accepted led.so_far part none told.0 judged.0 told.1 few judged.1);
+          },
           subst (λ (h : List ℕ). budget limits after.count h + length (part ++ 10 ∷ []) ≤ budget limits before.count before.held.items) held_is
               (subst (λ (n : ℕ). budget limits n [] + length (part ++ 10 ∷ []) ≤ budget limits before.count before.held.items) count_is
-              (so_far.next_spent command limits read (written ++ string_bytes before.pending) before.held.items before.count before.solo led part none told.1 few)),
+              (so_far.next_spent command limits read (written ++ string_bytes before.pending) before.held.items before.count led.accepted led.so_far part none told.1 few)),
         )
     line_fed (Err ReadFault) told = absurd told
     line_fed (Err WriteFault) told = absurd told
     line_fed (Err NoMemory) told = λ read written led.
         subst (λ (p : List ℕ). AnswersFront command limits ⊥ (read ++ (part ++ 10 ∷ [])) (written ++ p)) (sym (told ∙ ap (λ p. string_bytes p) pending))
-        (so_far.front_of command limits read (written ++ string_bytes before.pending) before.held.items before.count before.solo led ⊥ (part ++ 10 ∷ []))
+        (so_far.front_of command limits read (written ++ string_bytes before.pending) before.held.items before.count led.accepted led.so_far ⊥ (part ++ 10 ∷ []))
     line_fed (Err Refused) told = λ read written led.
         let pending_is : string_bytes before.pending ≡ string_bytes after.pending = sym (told.0 ∙ ap (λ p. string_bytes p) pending) in (
           subst (λ (p : List ℕ). AnswersFront command limits ⊥ (read ++ (part ++ 10 ∷ [])) (written ++ p)) pending_is
-              (so_far.front_of command limits read (written ++ string_bytes before.pending) before.held.items before.count before.solo led ⊥ (part ++ 10 ∷ [])),
+              (so_far.front_of command limits read (written ++ string_bytes before.pending) before.held.items before.count led.accepted led.so_far ⊥ (part ++ 10 ∷ [])),
           subst (λ (p : List ℕ). AnswersBefore command limits (λ _. ⊤) (read ++ (part ++ 10 ∷ [])) (written ++ p)) pending_is
               (⊎_elim
-              (λ all. so_far.too_many command limits read (written ++ string_bytes before.pending) before.held.items before.count before.solo led (part ++ 10 ∷ []) (omega (arith, length-append part (10 ∷ []))) (omega (arith, all)))
-              (λ long. so_far.line_long command limits read (written ++ string_bytes before.pending) before.held.items before.count before.solo led part none long)
+              (λ all. so_far.too_many command limits read (written ++ string_bytes before.pending) before.held.items before.count led.accepted led.so_far (part ++ 10 ∷ []) (omega (arith, length-append part (10 ∷ []))) (omega (arith, all)))
+              (λ long. so_far.line_long command limits read (written ++ string_bytes before.pending) before.held.items before.count led.accepted led.so_far part none long)
               told.1),
         )
 
   -- the last line, which is held, was answered
-  pub line_finished : (before mid after : AnsweredLines) → mid.pending ≡ before.pending → mid.count ≡ before.count → mid.solo ≡ before.solo → 0 < length before.held.items
+  pub line_finished : (before mid after : AnsweredLines) → mid.pending ≡ before.pending → mid.count ≡ before.count → mid.window ≡ before.window → 0 < length before.held.items
       → (result : Result Unit Stop) → LineTold command limits mid before.held.items after result → Finishes command limits before after result
-  line_finished before mid after pending count solo some (Ok _) told = λ read written led.
+  line_finished before mid after pending count window some (Ok _) told = λ read written led.
+      let judged = told.3 led.accepted (window_as before.window mid.window led.accepted (sym window) led.window) in
       subst (λ (p : List ℕ). AnswersAll command limits read p)
       (append_assoc written (string_bytes before.pending) (verdict_line told.0) ∙ ap (λ p. written ++ p) (ap (λ p. string_bytes p ++ verdict_line told.0) (sym pending) ∙ sym told.4))
-      (so_far.last command limits read (written ++ string_bytes before.pending) before.held.items before.count before.solo led some told.0 after.solo told.1 (omega (arith, told.2)) (rw solo at told.3))
-  line_finished before mid after pending count solo some (Err ReadFault) told = absurd told
-  line_finished before mid after pending count solo some (Err WriteFault) told = absurd told
-  line_finished before mid after pending count solo some (Err NoMemory) told = λ read written led.
+      (so_far.last command limits read (written ++ string_bytes before.pending) before.held.items before.count led.accepted led.so_far some told.0 judged.0 told.1 (omega (arith, told.2)) judged.1)
+  line_finished before mid after pending count window some (Err ReadFault) told = absurd told
+  line_finished before mid after pending count window some (Err WriteFault) told = absurd told
+  line_finished before mid after pending count window some (Err NoMemory) told = λ read written led.
       subst (λ (p : List ℕ). AnswersFront command limits ⊤ read (written ++ p)) (sym (told ∙ ap (λ p. string_bytes p) pending))
       (subst (λ (r : List ℕ). AnswersFront command limits ⊤ r (written ++ string_bytes before.pending)) (append-nil read)
-      (so_far.front_of command limits read (written ++ string_bytes before.pending) before.held.items before.count before.solo led ⊤ []))
-  line_finished before mid after pending count solo some (Err Refused) told = λ read written led.
+      (so_far.front_of command limits read (written ++ string_bytes before.pending) before.held.items before.count led.accepted led.so_far ⊤ []))
+  line_finished before mid after pending count window some (Err Refused) told = λ read written led.
       let pending_is : string_bytes before.pending ≡ string_bytes after.pending = sym (told.0 ∙ ap (λ p. string_bytes p) pending) in (
         subst (λ (p : List ℕ). AnswersFront command limits ⊤ read (written ++ p)) pending_is
             (subst (λ (r : List ℕ). AnswersFront command limits ⊤ r (written ++ string_bytes before.pending)) (append-nil read)
-            (so_far.front_of command limits read (written ++ string_bytes before.pending) before.held.items before.count before.solo led ⊤ [])),
+            (so_far.front_of command limits read (written ++ string_bytes before.pending) before.held.items before.count led.accepted led.so_far ⊤ [])),
         subst (λ (p : List ℕ). AnswersBefore command limits (λ more. more ≡ []) read (written ++ p)) pending_is
-            (so_far.last_refused command limits read (written ++ string_bytes before.pending) before.held.items before.count before.solo led some
+            (so_far.last_refused command limits read (written ++ string_bytes before.pending) before.held.items before.count led.accepted led.so_far some
             (⊎_elim (λ all. inl (omega (arith, all))) (λ long. inr long) told.1)),
       )

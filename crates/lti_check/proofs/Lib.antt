@@ -1,3 +1,4 @@
+pub mod NoteLemmas
 pub mod FeedLemmas
 pub mod LineLemmas
 pub mod SoFarLemmas

@@ -12,7 +12,7 @@ use Rattle.lti_check.specs.declared.answered_lines.AnsweredLines.{AnsweredLines}
 use Rattle.lti_check.specs.declared.stop.Stop.{Stop}
 use Rattle.lti_check.specs.declared.stop.Stop.TheVariants.{ReadFault, WriteFault, NoMemory, Refused}
 use Rattle.lti_check.proofs.SoFarLemmas as so_far
-use Rattle.lti_check.proofs.FeedLemmas.{IsSoFar-as}
+use Rattle.lti_check.proofs.FeedLemmas.{IsSoFar-as, window_as}
 
 module _ (command : CheckCommand) (limits : Limits) where
   -- less was written, or the end was told otherwise
@@ -62,7 +62,7 @@ module _ (command : CheckCommand) (limits : Limits) where
       → Feeds command limits before bytes after result → AnswersFront command limits ⊥ (read ++ bytes) (written ++ string_bytes after.pending)
   feed_front before after bytes (Ok _) read written led fed =
       subst (λ (r : List ℕ). AnswersFront command limits ⊥ r (written ++ string_bytes after.pending)) (append-nil (read ++ bytes))
-      (so_far.front_of command limits (read ++ bytes) (written ++ string_bytes after.pending) after.held.items after.count after.solo (fed read written led).0 ⊥ [])
+      (so_far.front_of command limits (read ++ bytes) (written ++ string_bytes after.pending) after.held.items after.count (fed read written led).0.accepted (fed read written led).0.so_far ⊥ [])
   feed_front before after bytes (Err ReadFault) read written led fed = absurd fed
   feed_front before after bytes (Err WriteFault) read written led fed = absurd fed
   feed_front before after bytes (Err NoMemory) read written led fed = fed read written led
@@ -100,7 +100,7 @@ module _ (command : CheckCommand) (limits : Limits) where
     [],
     moves,
     subst (λ (p : List ℕ). AnswersFront command limits (IsAtEnd to) (read ++ []) (written ++ p)) none
-        (so_far.front_of command limits read (written ++ string_bytes before.pending) before.held.items before.count before.solo led (IsAtEnd to) []),
+        (so_far.front_of command limits read (written ++ string_bytes before.pending) before.held.items before.count led.accepted led.so_far (IsAtEnd to) []),
   )
 
   -- the input was at its end
@@ -169,21 +169,29 @@ module _ (command : CheckCommand) (limits : Limits) where
           let now = fed read written led in
           let held = sym (ap (λ (a : AnsweredLines). a.held.items) same) in
           let count = sym (ap (λ (a : AnsweredLines). a.count) same) in
-          let solo = sym (ap (λ (a : AnsweredLines). a.solo) same) in
+          let window = sym (ap (λ (a : AnsweredLines). a.window) same) in
           let spent : budget limits after.count after.held.items + length bytes ≤ budget limits before.count before.held.items =
           subst (λ (h : List ℕ). budget limits after.count h + length bytes ≤ budget limits before.count before.held.items) held
           (subst (λ (n : ℕ). budget limits n told.held.items + length bytes ≤ budget limits before.count before.held.items) count now.1) in (
             bytes,
             string_bytes told.pending,
             Moves-gives taken given,
-            IsSoFar-as command limits (sym (append-nil (written ++ string_bytes told.pending)) ∙ ap (λ p. (written ++ string_bytes told.pending) ++ p) (sym empty)) held count solo now.0,
+            record {
+              accepted = now.0.accepted;
+              window = window_as command limits told.window after.window now.0.accepted window now.0.window;
+              so_far = IsSoFar-as command limits (sym (append-nil (written ++ string_bytes told.pending)) ∙ ap (λ p. (written ++ string_bytes told.pending) ++ p) (sym empty)) held count refl now.0.so_far;
+            },
             empty,
             omega (arith, spent),
           )
 
   -- nothing was read yet
-  pub fresh_led : (state : AnsweredLines) → IsFresh state → LedTo command limits [] [] state
-  fresh_led state fresh = IsSoFar-as command limits (sym fresh.pending) (sym fresh.held) (sym fresh.count) (sym fresh.solo) (so_far.start command limits)
+  pub fresh_led : (state : AnsweredLines) → IsFresh limits state → LedTo command limits [] [] state
+  fresh_led state fresh = record {
+    accepted = [];
+    window = fresh.window;
+    so_far = IsSoFar-as command limits (sym fresh.pending) (sym fresh.held) (sym fresh.count) refl (so_far.start command limits);
+  }
 
   -- memory ran out before anything was read
   pub run_none : (from : Traffic) → Checks command limits from from (Err NoMemory)

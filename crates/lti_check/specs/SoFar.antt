@@ -4,8 +4,10 @@ use Rattle.std.specs.Str.Lines.{lines}
 use Rattle.lti_outside.specs.Traffic.{Traffic, Moves, no_fault}
 use Rattle.lti_outside.specs.declared.limits.Limits.{Limits}
 use Rattle.lti_machine.specs.declared.entry.Entry.{Entry}
+use Rattle.nonce_window.specs.Window.{WindowValue}
 use Rattle.lti_words.specs.Command.{CheckCommand}
 use Rattle.lti_check.specs.Lines.{HasNoNewline, EndsLine}
+use Rattle.lti_check.specs.Noting.{HoldsCalls}
 use Rattle.lti_check.specs.Verdicts.{Judges, verdict_line, AreAnswered, AnswersAll, AnswersBefore, AnswersFront, AnswersLines}
 use Rattle.lti_check.specs.Stops.{stop_fault}
 use Rattle.lti_check.specs.declared.answered_lines.AnsweredLines.{AnsweredLines}
@@ -25,15 +27,22 @@ pub record IsSoFar (command : CheckCommand) (limits : Limits) (read written held
   pub short : length held ≤ limits.body + 1
   pub few : count ≤ limits.calls
 
--- the bytes read, and the verdict lines made and written, led to this state
-abbrev pub LedTo : CheckCommand → Limits → List ℕ → List ℕ → AnsweredLines → Type 0
-LedTo command limits read written state =
-    IsSoFar command limits read (written ++ string_bytes state.pending) state.held.items state.count state.solo
+-- the bytes read, and the verdict lines made and written, led to this state, whose window holds the accepted calls
+pub record LedTo (command : CheckCommand) (limits : Limits) (read written : List ℕ) (state : AnsweredLines) : Type 0 where
+  pub accepted : List Entry
+  pub window : HoldsCalls limits.window state.window accepted
+  pub so_far : IsSoFar command limits read (written ++ string_bytes state.pending) state.held.items state.count accepted
+
+-- whichever calls the window held, this is the verdict of the line over them, and it holds those after it
+abbrev pub JudgesOver : CheckCommand → Limits → WindowValue → List ℕ → Verdict → WindowValue → Type 0
+JudgesOver command limits before line verdict after =
+    (accepted : List Entry) → HoldsCalls limits.window before accepted
+    → (later : List Entry) × Judges command limits accepted line verdict later × HoldsCalls limits.window after later
 
 -- what answering one line did: its verdict line is pending, or nothing more is
 abbrev pub LineTold : CheckCommand → Limits → AnsweredLines → List ℕ → AnsweredLines → Result Unit Stop → Type 0
 LineTold command limits before line after (Ok _) =
-    (verdict : Verdict) × (length line ≤ limits.body) × (before.count < limits.calls) × Judges command limits before.solo line verdict after.solo
+    (verdict : Verdict) × (length line ≤ limits.body) × (before.count < limits.calls) × JudgesOver command limits before.window line verdict after.window
     × (string_bytes after.pending ≡ string_bytes before.pending ++ verdict_line verdict) × (after.count ≡ before.count + 1) × (after.held ≡ before.held)
 LineTold command limits before line after (Err Refused) =
     (string_bytes after.pending ≡ string_bytes before.pending) × ((limits.calls ≤ before.count) ⊎ (limits.body < length line))
@@ -42,8 +51,8 @@ LineTold command limits before line after (Err ReadFault) = ⊥
 LineTold command limits before line after (Err WriteFault) = ⊥
 
 -- nothing was read, answered or accepted yet
-pub record IsFresh (state : AnsweredLines) : Type 0 where
-  pub solo : state.solo ≡ []
+pub record IsFresh (limits : Limits) (state : AnsweredLines) : Type 0 where
+  pub window : HoldsCalls limits.window state.window []
   pub held : state.held.items ≡ []
   pub count : state.count ≡ 0
   pub pending : string_bytes state.pending ≡ []

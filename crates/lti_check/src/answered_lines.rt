@@ -4,18 +4,20 @@ ghost use Rattle.std.specs.Str.Lines.{strip_carriage_return};
 ghost use Rattle.lti_check.specs.Lines.{HasNoNewline};
 
 use crate::checker::{Checked, Checker};
+use crate::noting::note;
 use crate::stop::Stop;
 use crate::verdict::{Verdict, push_verdict};
-use lti_machine::{Reply, Solo};
-use lti_outside::{NoMemory, Sink, WriteFault, give_all};
+use lti_outside::{Limits, NoMemory, Sink, WriteFault, give_all};
 use memchr::memchr;
+use nonce_window::NonceWindow;
 use std::alloc::Global;
 use std::mem;
 
 /// The lines that were answered so far, whatever pieces their bytes came in.
 #[derive(Drop)]
 pub struct AnsweredLines {
-    solo: Solo,
+    // The nonces of the calls that were accepted.
+    window: NonceWindow,
     // The front of a line whose end wasn't read yet.
     held: Vec<u8>,
     // How many lines have a verdict.
@@ -47,22 +49,21 @@ impl AnsweredLines {
     ghost use Rattle.lti_outside.specs.Traffic.{Moves, no_fault, GivesFront};
     ghost use Rattle.lti_check.specs.Lines.{HasNoNewline};
     ghost use Rattle.lti_check.specs.CheckerView.{asked, IsReady};
-    ghost use Rattle.lti_check.specs.Verdicts.{Judges};
-    ghost use Rattle.lti_check.specs.SoFar.{LineTold, Feeds, Finishes, IsFresh};
+    ghost use Rattle.lti_check.specs.SoFar.{JudgesOver, LineTold, Feeds, Finishes, IsFresh};
 
     /// No line yet.
-    pub fn new(alloc: Global) -> AnsweredLines
-        ensures { IsFresh result }
+    pub fn new(alloc: Global, limits: &Limits) -> Result<AnsweredLines, NoMemory>
+        ensures { IfOk result (IsFresh limits.now) }
     {
-        AnsweredLines {
-            solo: Solo::new(alloc),
+        Ok(AnsweredLines {
+            window: NonceWindow::new(alloc, limits.window)?,
             held: Vec::new(alloc),
             count: 0,
             pending: String::new(alloc),
-        }
+        })
     }
 
-    // The verdict of a line, after which the machine has accepted the call that it may make.
+    // The verdict of a line, after which the call that it may make is noted.
     fn verdict(
         &mut self,
         alloc: Global,
@@ -70,16 +71,13 @@ impl AnsweredLines {
         line: &[u8],
     ) -> Result<Verdict, NoMemory>
         requires { IsReady checker.now }
-        ensures ok { IfOk result (λ verdict. Judges (asked checker.now) checker.now.limits self.old.solo line.now verdict self.new.solo) }
-        ensures same { self.new ≡ record self.old { solo = self.new.solo } }
+        ensures ok { IfOk result (λ verdict. JudgesOver (asked checker.now) checker.now.limits self.old.window line.now verdict self.new.window) }
+        ensures same { self.new ≡ record self.old { window = self.new.window } }
     {
         match checker.check(alloc, line)? {
             Checked::BadForm => Ok(Verdict::BadForm),
             Checked::BadSignature => Ok(Verdict::BadSignature),
-            Checked::Signed(call) => match self.solo.answer(call, &checker.limits) {
-                Reply::NoMemory => Err(NoMemory),
-                reply => Ok(Verdict::Replied(reply)),
-            },
+            Checked::Signed(call) => Ok(Verdict::Replied(note(&mut self.window, &call)?)),
         }
     }
 

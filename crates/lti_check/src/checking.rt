@@ -56,7 +56,7 @@ pub fn check_lines<I: Link>(
     ensures { Checks (check_of check.now) limits.now (I.traffic ends.old) (I.traffic ends.new) result }
 {
     let checker = Checker::new(alloc, check, limits)?;
-    let mut answered = AnsweredLines::new(alloc);
+    let mut answered = AnsweredLines::new(alloc, limits)?;
     let mut block = vec![in alloc; 0u8; BLOCK_LEN]?;
     // Each turn takes at least one of the bytes that the limits allow.
     'turns: loop {

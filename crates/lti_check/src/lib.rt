@@ -5,12 +5,14 @@
 //! the run ends.
 //!
 //! - `checking`: the command over a link; `answered_lines`: the lines in whatever pieces; `checker`: which kind of request a
-//!   line is; `verdict`: what is written for it; `stop`: why the command ended before its work was done.
+//!   line is; `noting`: the nonces that were used; `verdict`: what is written for a line; `stop`: why the command ended before
+//!   its work was done.
 #![tactic(auto)]
 
 mod answered_lines;
 mod checker;
 mod checking;
+mod noting;
 mod stop;
 #[cfg(test)]
 mod tests;

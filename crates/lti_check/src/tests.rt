@@ -90,68 +90,6 @@ fn verdicts_in_any_pieces(rt: HostRuntime) -> Result<(), Fail> {
 }
 
 #[test]
-fn faults_of_a_form(rt: HostRuntime) -> Result<(), Fail> {
-    let alloc = rt.alloc();
-    let asked = check_words(alloc, URL)?;
-    let one = first(alloc)?;
-    let rest =
-        "&oauth_signature_method=HMAC-SHA1&oauth_timestamp=1400000000&oauth_nonce=n1&oauth_signature=x";
-    let long = format!(in alloc; "oauth_consumer_key={:0>256}{rest}", 1)?;
-    let other = format!(in alloc; "oauth_consumer_key=54321{rest}")?;
-    let missing = format!(in alloc; "a=1{rest}")?;
-    let cases = [
-        (format!(in alloc; "{one}&oauth_version=2.0")?, "bad form\n"),
-        (
-            format!(in alloc; "{one}&oauth_version=1.0")?,
-            "bad signature\n",
-        ),
-        (format!(in alloc; "{one}&oauth_token=t")?, "bad form\n"),
-        (format!(in alloc; "{one}&oauth_token=")?, "bad signature\n"),
-        (format!(in alloc; "{one}&oauth_nonce=n2")?, "bad form\n"),
-        (
-            format!(in alloc; "{one}&oauth_body_hash=a&oauth_body_hash=b")?,
-            "bad form\n",
-        ),
-        (format!(in alloc; "{one}&a=%C3%28")?, "bad form\n"),
-        (format!(in alloc; "{one}&a=%")?, "bad signature\n"),
-        (missing, "bad form\n"),
-        (long, "bad form\n"),
-        (other, "bad signature\n"),
-        (signed(alloc, "", "x")?, "bad form\n"),
-        (
-            String::from_str(
-                alloc,
-                "oauth_consumer_key=12345&oauth_signature_method=HMAC-SHA1&oauth_timestamp=0&oauth_nonce=n&oauth_signature=x",
-            )?,
-            "bad form\n",
-        ),
-        (
-            String::from_str(
-                alloc,
-                "oauth_consumer_key=12345&oauth_signature_method=HMAC-SHA256&oauth_timestamp=1&oauth_nonce=n&oauth_signature=x",
-            )?,
-            "bad form\n",
-        ),
-        (
-            String::from_str(
-                alloc,
-                "oauth_consumer_key=12345&oauth_signature_method=HMAC-SHA1&oauth_timestamp=1399994599&oauth_nonce=n1&oauth_signature=jaGjVIxDd13hy01IJUTDGnc4AgE%3D",
-            )?,
-            "outside 1400000000\n",
-        ),
-    ];
-    for (line, want) in &cases {
-        let mut ends = link(alloc, line.as_bytes(), 64, &[], &[])?;
-        assert_eq!(rt;
-            run_words(&rt, alloc, &asked, &mut ends, &Limits::usual())?,
-            Status::Done
-        );
-        assert_eq!(rt; ends.given(), want.as_bytes(), "at {line}");
-    }
-    Ok(())
-}
-
-#[test]
 fn parameters_of_the_query_are_signed(rt: HostRuntime) -> Result<(), Fail> {
     let alloc = rt.alloc();
     let asked = check_words(alloc, "HTTP://Tool.Example:8080/a%20b?course=7&z")?;

@@ -9,12 +9,11 @@ use crate::pending::{Pending, reserve_answer};
 use crate::rendering::render_into;
 use crate::session_end::SessionEnd;
 use crate::wire_faults::refuse;
-use http_wire::{Request, Wire, WireFault, write_answer, write_response};
+use http_wire::{Request, Untapped, Wire, WireFault, write_answer, write_response};
 use lti_machine::{Action, Call, Reply};
 use lti_outside::{Clock, Limits, Link, WriteFault};
 use lti_settings::Settings;
 use oauth_request::Signed;
-use oauth_sign::BodyHash;
 use std::alloc::Global;
 use std::marker::Model;
 
@@ -74,7 +73,6 @@ fn signed_call(caller: u32, moment: u64, signed: Signed, action: Action) -> Call
 
 impl Session {
     ghost use Rattle.std.specs.Prelude.{◌≡◌, ◌<◌, ◌+◌, ℕ, List, [], ◌++◌, true, false, None, is_some, OnOk, OnErr};
-    ghost use Rattle.sha1.specs.Sha1.{sha1};
     ghost use Rattle.lti_outside.specs.Limits.{IsSound};
     ghost use Rattle.lti_outside.specs.Traffic.{Moves, Fault, no_fault, GivesFront};
     ghost use Rattle.http_wire.specs.Message.{parts_of};
@@ -114,14 +112,12 @@ impl Session {
         &mut self,
         alloc: Global,
         request: Request,
-        body_sum: &[u8; 20],
         link: &mut L,
         settings: &Settings,
         clock: &C,
         limits: &Limits,
     ) -> Next
         requires sound { IsSound limits.now }
-        requires sum { body_sum.now ≡ sha1 request.body.list }
         requires idle { self.old.pending ≡ None }
         requires lives { self.old.ended ≡ false }
         requires open { self.old.over ≡ false }
@@ -134,14 +130,7 @@ impl Session {
         ensures count { OnRefused result (self.new.count ≡ self.old.count + 1) }
     {
         let ends = ends_with(&request, self.count, limits);
-        match judge(
-            alloc,
-            &request,
-            body_sum,
-            &settings.keys,
-            settings.scheme,
-            limits,
-        ) {
+        match judge(alloc, &request, &settings.keys, settings.scheme, limits) {
             Ok(Before::Refused(response)) => {
                 self.count += 1;
                 match write_response(link, &response, ends) {
@@ -204,17 +193,8 @@ impl Session {
             self.ended = true;
             return Next::Over(SessionEnd::Ended);
         }
-        let mut hash = BodyHash::start();
-        match self.wire.read_request(alloc, link, &mut hash, limits) {
-            Ok(Some(request)) => self.take(
-                alloc,
-                request,
-                &hash.finish(),
-                link,
-                settings,
-                clock,
-                limits,
-            ),
+        match self.wire.read_request(alloc, link, &mut Untapped, limits) {
+            Ok(Some(request)) => self.take(alloc, request, link, settings, clock, limits),
             Ok(None) => {
                 self.ended = true;
                 Next::Over(SessionEnd::Ended)

@@ -1,18 +1,19 @@
 // What is said of a request before the machine is asked.
-ghost use Rattle.std.specs.Prelude.{◌≡◌, IfOk};
+ghost use Rattle.std.specs.Prelude.{◌≡◌, false, IfOk};
 ghost use Rattle.sha1.specs.Sha1.{sha1};
 ghost use Rattle.lti_outside.specs.Limits.{IsSound};
 ghost use Rattle.http_wire.specs.Message.{parts_of};
-ghost use Rattle.oauth_request.specs.Checked.{parameters};
+ghost use Rattle.oauth_request.specs.Checked.{parameters, is_form};
 ghost use Rattle.lti_server.specs.BeforeView.{IsBefore, IsJudged};
 
 use crate::refusals::{auth_response, envelope_response, launch_response, route_response};
 use http_wire::{Request, Response};
 use lti_consumer::outcome_call;
 use lti_machine::Action;
-use lti_outside::{Limits, NoMemory};
+use lti_outside::{Limits, NoMemory, Tap};
 use lti_provider::{ProviderFault, Route, launch_call, route_of};
-use oauth_request::{AuthFault, Keys, Signed, check};
+use oauth_request::{AuthFault, FORM_TYPE, Keys, Signed, check};
+use oauth_sign::BodyHash;
 use oauth_text::Scheme;
 use pox_outcomes::{EnvelopeFault, Outcome};
 use std::alloc::Global;
@@ -28,6 +29,18 @@ pub enum Before {
         outcome: Option<Outcome>,
         action: Action,
     },
+}
+
+// The SHA-1 of a body that isn't a form. The signature covers a form, so nothing is hashed there.
+fn body_sum(request: &Request) -> [u8; 20]
+    ensures { is_form (parts_of request.now) ≡ false → result ≡ sha1 request.now.body.list }
+{
+    if request.media.get() == FORM_TYPE {
+        return [0; 20];
+    }
+    let mut hash = BodyHash::start();
+    hash.feed(request.body.get());
+    hash.finish()
 }
 
 // What comes of a well signed request, which says this, by its message.
@@ -70,17 +83,15 @@ fn judge_message(
 
 /// What comes of a request before the machine is asked: the answer to another path than those of launches and outcomes,
 /// another method than POST, another body than the path's that isn't compressed, to the first fault of its signature, or to
-/// a message that is no launch or no outcome request; else what it says and asks. `body_sum` is the SHA-1 of the body, `keys`
-/// are the consumer keys with their secrets, and `scheme` is the one by which this end is reached.
+/// a message that is no launch or no outcome request; else what it says and asks. `keys` are the consumer keys with
+/// their secrets, and `scheme` is the one by which this end is reached.
 pub fn judge(
     alloc: Global,
     request: &Request,
-    body_sum: &[u8; 20],
     keys: &Keys,
     scheme: Scheme,
     limits: &Limits,
 ) -> Result<Before, NoMemory>
-    requires sum { body_sum.now ≡ sha1 request.now.body.list }
     requires sound { IsSound limits.now }
     ensures { IfOk result (IsBefore (record { keys = keys.now; scheme = scheme; field = limits.now.field }) (parts_of request.now)) }
 {
@@ -91,7 +102,7 @@ pub fn judge(
             return Ok(Before::Refused(response));
         }
     };
-    match check(alloc, request, body_sum, keys, scheme, limits) {
+    match check(alloc, request, &body_sum(request), keys, scheme, limits) {
         Ok(signed) => {
             let before = judge_message(alloc, route, request, signed)?;
             Ok(before)
