@@ -1,5 +1,5 @@
 -- What the window's answers mean for the calls that it holds.
-use Rattle.std.proofs.Common.{◌≡◌, ℕ, List, [], ◌∷◌, ◌++◌, refl, sym, ap, ◌∙◌}
+use Rattle.std.proofs.Common.{◌≡◌, ℕ, List, refl, sym, ap, ◌∙◌}
 use Rattle.std.specs.Prelude.{max, if◌then◌else◌}
 use Rattle.lti_machine.specs.Nonces.{stamp_of_call, verdict}
 use Rattle.lti_machine.specs.Rules.{decide, after, high, now_of, is_issue, id_of, standing_of, result_of, reply_by, verdict_of, entry_of}

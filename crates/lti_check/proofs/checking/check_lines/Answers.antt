@@ -1,8 +1,10 @@
-use Rattle.std.proofs.Common.{[], ◌++◌, arith}
+use Rattle.std.proofs.Common.{[], ◌++◌, sym, subst, arith}
 use Rattle.std.proofs.lemmas.Result.{err_from_is_err_and}
+use Rattle.lti_outside.specs.declared.limits.Limits.{Limits}
 use Rattle.lti_outside.proofs.TrafficLemmas.{Moves-same, Moves-then}
 use Rattle.lti_words.specs.CommandView.{check_of}
 use Rattle.lti_check.specs.CheckerView.{asked}
+use Rattle.lti_check.specs.SoFar.{IsFresh}
 use Rattle.lti_check.proofs.TurnLemmas.{fresh_led, run_none, run_done, run_stopped}
 use Rattle.lti_check.proofs.checking.check_lines.Goals as goal
 
@@ -16,10 +18,15 @@ returns-in_err-block g c =
     let p = err_from_is_err_and c.from_residual-in_err-block.result c.from_residual-in_err-block.ensures.1 in
     rw (p.1, p.2) (run_none (check_of c.args.check.now) c.args.limits.now _)
 
+pub returns-in_err-answered : goal.returns-in_err-answered
+returns-in_err-answered g c =
+    let p = err_from_is_err_and c.from_residual-in_err-answered.result c.from_residual-in_err-answered.ensures.1 in
+    rw (p.1, p.2) (run_none (check_of c.args.check.now) c.args.limits.now _)
+
 pub turns-init : goal.turns-init
 turns-init g c = record {
-  led = ([], [], Moves-same _, fresh_led (asked c.in_ok-checker.checker) c.in_ok-checker.checker.limits c.new-answered.result c.new-answered.ensures);
-  none = c.new-answered.ensures.pending;
+  led = ([], [], Moves-same _, fresh_led (asked c.in_ok-checker.checker) c.in_ok-checker.checker.limits c.in_ok-answered.answered (subst (λ (l : Limits). IsFresh l c.in_ok-answered.answered) (sym c.in_ok-checker.ensures.limits) c.in_ok-answered.ensures));
+  none = c.in_ok-answered.ensures.pending;
   room = omega (arith, c.in_ok-block.ensures.len);
 }
 

@@ -1,7 +1,9 @@
-use Rattle.std.proofs.Common.{◌<◌, length, arith}
+use Rattle.std.proofs.Common.{ℕ, List, ◌<◌, ◌≤◌, ◌+◌, length, refl, sym, subst, arith}
 use Rattle.std.proofs.lemmas.Bool.Decides.{nat_tests}
 use Rattle.std.proofs.lemmas.Result.{err_from_is_err_and}
 use Rattle.lti_check.specs.CheckerView.{asked}
+use Rattle.lti_check.specs.SoFar.{budget}
+use Rattle.lti_check.proofs.FeedLemmas.{IsSoFar-as}
 use Rattle.lti_check.proofs.SoFarLemmas as so_far
 use Rattle.lti_check.proofs.answered_lines.AnsweredLines.begin_line.Goals as goal
 
@@ -28,11 +30,13 @@ returns-in_err-extend_from_slice c =
 pub returns : goal.returns
 returns c = λ read written led.
     let limits = c.args.checker.now.limits in
-    rw c.in_ok-extend_from_slice.ensures.items (
+    let command = asked c.args.checker.now in
+    let held = sym c.in_ok-extend_from_slice.ensures.items in (
       record {
         accepted = led.accepted;
         window = led.window;
-        so_far = so_far.hold (asked c.args.checker.now) limits _ _ _ _ _ led.so_far c.args.part.now c.requires (omega arith);
+        so_far = IsSoFar-as command limits refl held refl refl (so_far.hold command limits _ _ _ _ _ led.so_far c.args.part.now c.requires (omega arith));
       },
-      so_far.hold_spent (asked c.args.checker.now) limits _ _ _ _ _ led.so_far c.args.part.now (omega arith),
+      subst (λ (h : List ℕ). budget limits c.args.self.now.count h + length c.args.part.now ≤ budget limits c.args.self.now.count c.args.self.now.held.items) held
+          (so_far.hold_spent command limits _ _ _ _ _ led.so_far c.args.part.now (omega arith)),
     )
