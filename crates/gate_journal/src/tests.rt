@@ -306,6 +306,13 @@ fn a_half_of_256_bytes(rt: HostRuntime) -> Result<(), Fail> {
         Err(_) => return Err(Fail::from("not mounted")),
     };
     assert!(rt; pieces.is_empty());
+    let at_first = Position {
+        half: 256,
+        second: false,
+        generation: 0,
+        gate: 9,
+    };
+    assert_eq!(rt; journal.position(), at_first);
     let framed = frame(alloc, ENTRY)?;
     for free in [241, 194, 147, 100, 53] {
         assert_eq!(rt; journal.free(), free);
@@ -313,6 +320,13 @@ fn a_half_of_256_bytes(rt: HostRuntime) -> Result<(), Fail> {
         assert!(rt; journal.commit(&framed) == Ok(()));
     }
     assert!(rt; !journal.doubtful());
+    assert_eq!(rt;
+        journal.position(),
+        Position {
+            gate: 244,
+            ..at_first
+        }
+    );
     assert!(rt; journal.commit(&framed) == Err(CommitFault::Full { free: 6 }));
     let disk = journal.close();
     let calls = disk.calls();

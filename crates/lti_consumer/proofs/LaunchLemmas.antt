@@ -20,7 +20,7 @@ use Rattle.lti_launch.proofs.ValueLemmas.{values-append}
 use Rattle.lti_launch.proofs.LaunchLemmas.{faultless_join, value_stands}
 use Rattle.lti_machine.specs.declared.call.Action.TheVariants as action
 use Rattle.lti_asks.specs.Launches.{text_in, text_of, IsLaunchCall}
-use Rattle.lti_consumer.specs.Launches.{launch_fields, launch_action}
+use Rattle.lti_consumer.specs.Launches.{launch_fields, noted_launch}
 use Rattle.lti_consumer.specs.Laws.{HoldsNoField, FormSaysLaunch}
 use Rattle.lti_consumer.specs.declared.terms.Terms.{Terms}
 use Rattle.lti_consumer.proofs.FieldLemmas.{holds_none, alone, standing, fields_stand, oauth_stand, others_stand, unsigned_stand}
@@ -79,7 +79,7 @@ module _ (terms : Terms) (pairs : List Pair) (stand : Stand terms pairs) where
   text_alone [] = refl
   text_alone (c ∷ text) = refl
 
-  call : 1 ≤ length terms.link → IsLaunchCall pairs (launch_action terms)
+  call : 1 ≤ length terms.link → IsLaunchCall pairs (noted_launch terms)
   call some = record {
     faultless = faultless some;
     action_is = λ i. action.Launch (sym (text_is ResourceLinkId) i) (sym (text_is UserId ∙ text_alone terms.user) i)
@@ -112,7 +112,7 @@ form_stands terms key nonce text moment field =
 
 -- the form as it stands
 pub form_call : {url : UrlParts} {fields form : List Pair} {key secret nonce : List ℕ} {moment : ℕ} (terms : Terms) → 1 ≤ length terms.link
-    → fields ≡ launch_fields terms → IsSignedForm url fields key secret moment nonce form → IsLaunchCall form (launch_action terms)
+    → fields ≡ launch_fields terms → IsSignedForm url fields key secret moment nonce form → IsLaunchCall form (noted_launch terms)
 form_call {url = url} {fields = fields} {form = form} {key = key} {secret = secret} {nonce = nonce} {moment = moment} terms some are made =
     let same : form ≡ form_pairs (launch_fields terms) key moment nonce ++ pair signature_name made.text ∷ []
     = made.is ∙ ap (λ (ps : List Pair). form_pairs ps key moment nonce ++ pair signature_name made.text ∷ []) are in

@@ -28,5 +28,5 @@ launch_fields terms =
     needed terms.link ++ given UserId terms.user ++ given LisResultSourcedid terms.sourced_id ++ given LisOutcomeServiceUrl terms.service
 
 -- the launch that the tool's end is asked to note: these four texts
-abbrev pub launch_action : Terms → Action
-launch_action terms = action.Launch terms.link terms.user terms.sourced_id terms.service
+abbrev pub noted_launch : Terms → Action
+noted_launch terms = action.Launch terms.link terms.user terms.sourced_id terms.service

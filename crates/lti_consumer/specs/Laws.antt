@@ -9,7 +9,7 @@ use Rattle.oauth_request.specs.Checked as checked
 use Rattle.oauth_request.specs.Signing.{CanSign, AreTermsOf, IsSignedForm, PostsForm, IsBelieved}
 use Rattle.lti_launch.specs.Parameters.{is_field}
 use Rattle.lti_asks.specs.Launches.{IsLaunchCall}
-use Rattle.lti_consumer.specs.Launches.{launch_fields, launch_action}
+use Rattle.lti_consumer.specs.Launches.{launch_fields, noted_launch}
 use Rattle.lti_consumer.specs.declared.terms.Terms.{Terms}
 
 -- no parameter of a launch stands among the pairs
@@ -19,7 +19,7 @@ HoldsNoField pairs = list_any is_field pairs ≡ false
 -- the request is well signed, and its parameters are the launch of these terms
 pub record SaysLaunch (other : checked.Terms) (terms : Terms) (key : List ℕ) (moment : ℕ) (nonce : List ℕ) (q : RequestParts) : Type 0 where
   pub believed : IsBelieved other key moment nonce q
-  pub call : IsLaunchCall (checked.parameters q) (launch_action terms)
+  pub call : IsLaunchCall (checked.parameters q) (noted_launch terms)
 
 -- A launch form that is posted to its URL says the launch of its terms, at an end that knows the key with this secret, takes a
 -- key and a nonce as long as these, and is reached by the URL's scheme, where the URL's query has no parameter of a launch.

@@ -91,7 +91,7 @@ pub fn launch_form(
     requires link { 1 ≤ length terms.now.link }
     requires signer { CanSign key.now moment nonce.now }
     ensures signed { IfOk result (IsSignedForm (parts_of url.now) (spec.launch_fields terms.now) key.now secret.now moment nonce.now) }
-    ensures launch { IfOk result (λ form. IsLaunchCall form (spec.launch_action terms.now)) }
+    ensures launch { IfOk result (λ form. IsLaunchCall form (spec.noted_launch terms.now)) }
 {
     let fields = launch_fields(alloc, terms)?;
     let form = sign_form(alloc, url, &fields, key, secret, moment, nonce)?;

@@ -8,7 +8,7 @@ use Rattle.oauth_request.specs.Checked as checked
 use Rattle.oauth_request.specs.declared.checking.Signed.{Signed}
 use Rattle.oauth_request.specs.Signing.{CanSign, AreTermsOf, IsSignedForm, PostsForm}
 use Rattle.lti_provider.specs.Before.{route_refusal, IsAsked}
-use Rattle.lti_consumer.specs.Launches.{launch_fields, launch_action}
+use Rattle.lti_consumer.specs.Launches.{launch_fields, noted_launch}
 use Rattle.lti_consumer.specs.Laws.{HoldsNoField, SaysLaunch}
 use Rattle.lti_consumer.specs.declared.terms.Terms.{Terms}
 
@@ -20,7 +20,7 @@ signed_as key moment nonce q = record { key = key; timestamp = moment; nonce = n
 -- launches are answered at the URL's path
 pub record AsksLaunch (other : checked.Terms) (terms : Terms) (key : List ℕ) (moment : ℕ) (nonce : List ℕ) (q : RequestParts) : Type 0 where
   pub says : SaysLaunch other terms key moment nonce q
-  pub asked : route_refusal q ≡ None → IsAsked other q (signed_as key moment nonce q) None (launch_action terms)
+  pub asked : route_refusal q ≡ None → IsAsked other q (signed_as key moment nonce q) None (noted_launch terms)
 
 -- A launch form that is posted to its URL asks to note the launch of its terms, at an end that knows the key with this
 -- secret, takes a key and a nonce as long as these, and is reached by the URL's scheme, where the URL's query has no

@@ -6,12 +6,12 @@ use Rattle.oauth_request.specs.declared.checking.Signed.{Signed}
 use Rattle.lti_provider.specs.Before.{route_refusal}
 use Rattle.lti_provider.specs.Routes.{route_at}
 use Rattle.lti_provider.specs.declared.routes.Route.{Route}
-use Rattle.lti_server.specs.BeforeView.{IsTakeable, IsJudged, IsBefore}
+use Rattle.lti_server.specs.BeforeView.{IsTakeable, IsMessageJudged, IsBefore}
 use Rattle.lti_server.specs.declared.before.Before.{Before}
 use Rattle.lti_server.specs.declared.before.Before.TheVariants.{Refused, Asked}
 
 pub judged_before : (terms : Terms) (q : RequestParts) (route : Route) (signed : Signed) (before : Before) → route_refusal q ≡ None → route_at q.path ≡ Some route
-    → IsWellSigned terms q → Says q signed → IsTakeable signed → IsJudged route q signed before → IsBefore terms q before
+    → IsWellSigned terms q → Says q signed → IsTakeable signed → IsMessageJudged route q signed before → IsBefore terms q before
 judged_before terms q route signed (Refused response) routed at well_signed says takes (nothing, reason) =
     (inr (inr (record { routed = routed; well_signed = well_signed; route = route; route_is = at; nothing = nothing })), reason)
 judged_before terms q route signed (Asked same outcome action) routed at well_signed says takes (is, call, signed_one) = (

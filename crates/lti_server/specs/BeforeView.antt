@@ -18,9 +18,9 @@ pub record IsTakeable (signed : Signed) : Type 0 where
   pub nonce : IsShort signed.nonce
 
 -- what is said of the message of a request of this route that is well signed
-abbrev pub IsJudged : Route → RequestParts → Signed → Before → Type 0
-IsJudged route q signed (Refused response) = AsksNothing route q (response_parts_of response) × HasReason response.status
-IsJudged route q signed (Asked same outcome action) = (same ≡ signed) × Asks route q outcome action × (is_issue action ≡ false)
+abbrev pub IsMessageJudged : Route → RequestParts → Signed → Before → Type 0
+IsMessageJudged route q signed (Refused response) = AsksNothing route q (response_parts_of response) × HasReason response.status
+IsMessageJudged route q signed (Asked same outcome action) = (same ≡ signed) × Asks route q outcome action × (is_issue action ≡ false)
 
 abbrev pub IsBefore : Terms → RequestParts → Before → Type 0
 IsBefore terms q (Refused response) = IsRefused terms q (response_parts_of response) × HasReason response.status

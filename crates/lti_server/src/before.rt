@@ -4,7 +4,7 @@ ghost use Rattle.sha1.specs.Sha1.{sha1};
 ghost use Rattle.lti_outside.specs.Limits.{IsSound};
 ghost use Rattle.http_wire.specs.Message.{parts_of};
 ghost use Rattle.oauth_request.specs.Checked.{parameters, is_form};
-ghost use Rattle.lti_server.specs.BeforeView.{IsBefore, IsJudged};
+ghost use Rattle.lti_server.specs.BeforeView.{IsBefore, IsMessageJudged};
 
 use crate::refusals::{auth_response, envelope_response, launch_response, route_response};
 use http_wire::{Request, Response};
@@ -51,7 +51,7 @@ fn judge_message(
     signed: Signed,
 ) -> Result<Before, NoMemory>
     requires { signed.pairs ≡ parameters (parts_of request.now) }
-    ensures { IfOk result (IsJudged route (parts_of request.now) signed) }
+    ensures { IfOk result (IsMessageJudged route (parts_of request.now) signed) }
 {
     match route {
         Route::Launches => match launch_call(alloc, &signed) {
