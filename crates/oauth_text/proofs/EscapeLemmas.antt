@@ -1,5 +1,5 @@
 -- What the crate `percent_encoding` writes with this crate's set is the escaped text.
-use Rattle.std.proofs.Common.{◌≡◌, ℕ, ◌/◌, ◌%◌, ◌<◌, Bool, true, false, cond, not, List, [], ◌∷◌, refl, arith}
+use Rattle.std.proofs.Common.{◌≡◌, ℕ, ◌/◌, ◌%◌, ◌<◌, Bool, true, false, cond, not, List, [], ◌∷◌, refl, ap, ◌∙◌, arith}
 use Rattle.std.specs.List.{AllByRecursion}
 use Rattle.std.proofs.lemmas.Bool.{agree_below, agree_below_at}
 use Rattle.percent_encoding.specs.AsciiSet.{should_percent_encode}
@@ -14,6 +14,10 @@ tests_agree = refl
 -- a byte is escaped exactly where it is not unreserved
 test_of : (b : ℕ) → b < 256 → should_percent_encode RESERVED b ≡ not (is_unreserved b)
 test_of b small = agree_below_at (should_percent_encode RESERVED) (λ b. not (is_unreserved b)) 256 b tests_agree small
+
+not_not : (t : Bool) → not (not t) ≡ t
+not_not true = refl
+not_not false = refl
 
 turned : (t : Bool) (xs ys : List ℕ) → cond (not t) xs ys ≡ cond t ys xs
 turned true xs ys = refl
@@ -30,3 +34,7 @@ unfolding percent_encode escape
 percent_encode-escape [] small = refl
 percent_encode-escape (b ∷ bs) small =
     rw (encode_byte-escape_byte b small.0, percent_encode-escape bs small.1) refl
+
+-- the kit's test, turned
+pub unreserved_from_test : (b : ℕ) → b < 256 → (t : Bool) → t ≡ should_percent_encode RESERVED b → not t ≡ is_unreserved b
+unreserved_from_test b small t tested = ap not (tested ∙ test_of b small) ∙ not_not (is_unreserved b)

@@ -12,6 +12,7 @@ mod form_texts;
 mod forms;
 mod host;
 mod normal;
+mod order;
 mod places;
 #[cfg(test)]
 mod tests;
@@ -23,5 +24,6 @@ pub use form_texts::form_text;
 pub use forms::{FormFault, pairs};
 pub use host::{Host, HostFault};
 pub use normal::normalised;
+pub use order::{Parameter, ordered};
 pub use places::{first_place, place_of};
 pub use url::{Scheme, Url, UrlFault};
