@@ -19,7 +19,7 @@ mod tests;
 mod url;
 
 pub use blanks::{is_blank, trim_end, trim_front};
-pub use escapes::{escape, escape_into};
+pub use escapes::{escape, escape_into, is_unreserved};
 pub use form_texts::form_text;
 pub use forms::{FormFault, pairs};
 pub use host::{Host, HostFault};
