@@ -9,6 +9,7 @@
 mod base_strings;
 mod base_uris;
 mod body;
+mod feed;
 mod mac;
 mod signatures;
 #[cfg(test)]
