@@ -2,6 +2,7 @@
 use Rattle.std.proofs.Common.{◌≡◌, ◌<◌, ◌≤◌, ℕ, ◌+◌, ◌/◌, ◌%◌, true, false, cond, List, [], ◌∷◌, ◌++◌, length, take, get_or, set, map, flat_map, subst, refl, sym, ap, ◌∙◌, append_assoc, append-nil}
 use Rattle.std.specs.List.{AllByRecursion}
 use Rattle.std.specs.Fmt.{digit_glyph}
+use Rattle.std.specs.Str.{str_to_ascii_uppercase}
 use Rattle.std.proofs.lemmas.List.{take_more, take_all, map-append}
 use Rattle.std.proofs.lemmas.Grind.{flat_map-append}
 use Rattle.lti_outside.specs.declared.pairs.Pair.{Pair}
@@ -10,6 +11,7 @@ use Rattle.oauth_text.specs.Normal.{pair_text, joined}
 use Rattle.oauth_text.proofs.EscapeLemmas.{escape-append, escape_bytes, escape_one, twice_escaped_bytes}
 use Rattle.oauth_sign.specs.declared.feed.Feed.{Feed}
 use Rattle.oauth_sign.specs.Feed.{StandsFor, Takes}
+use Rattle.oauth_sign.specs.Signature.{base_text}
 
 -- pieces one after another
 pub takes_then : (a b c : Feed) (p q : List ℕ) → Takes a b p → Takes b c q → Takes a c (p ++ q)
@@ -72,3 +74,9 @@ all_joined g a b c xs others x i front far first rest =
     let whole : escape (pair_text (g x)) ++ escape (flat_map (λ q. (38 ∷ []) ++ pair_text q) (map g (take i others))) ≡ escape (joined (map g xs)) =
     sym (escape-append (pair_text (g x)) _) ∙ ap (λ t. escape (pair_text (g x) ++ t)) all ∙ ap (λ ys. escape (joined (map g ys))) (sym front) in
     subst (λ p. Takes a c p) whole (takes_then a b c _ _ first rest)
+
+-- a base string in its parts
+pub base_taken : (a b c d e f : Feed) (method uri normal : List ℕ) → Takes a b (str_to_ascii_uppercase method) → Takes b c (38 ∷ []) → Takes c d (escape uri) → Takes d e (38 ∷ []) → Takes e f (escape normal) → Takes a f (base_text method uri normal)
+base_taken a b c d e f method uri normal first mark second mark' third =
+    let front = takes_then a b d (str_to_ascii_uppercase method) (38 ∷ escape uri) first (takes_then b c d (38 ∷ []) (escape uri) mark second) in
+    takes_then a d f (str_to_ascii_uppercase method ++ 38 ∷ escape uri) (38 ∷ escape normal) front (takes_then d e f (38 ∷ []) (escape normal) mark' third)
