@@ -10,7 +10,11 @@ use oauth_text::escape_into;
 use std::alloc::{AllocError, Global};
 
 /// The two escaped secrets with `&` between them.
-pub(crate) fn key_text(alloc: Global, secret: &str, token_secret: &str) -> Result<String, AllocError>
+pub(crate) fn key_text(
+    alloc: Global,
+    secret: &str,
+    token_secret: &str,
+) -> Result<String, AllocError>
     ensures { IfOk result (λ key. string_bytes key ≡ signing_key secret.now token_secret.now) }
 {
     let room = secret
