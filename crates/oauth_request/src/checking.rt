@@ -13,7 +13,7 @@ use crate::parameters::all_pairs;
 use crate::{AuthFault, Field, Keys};
 use http_wire::Request;
 use lti_outside::{Limits, NoMemory, Pairs, Text};
-use oauth_sign::{base_string, base_uri, signature};
+use oauth_sign::{base_uri, signature_of};
 use oauth_text::Scheme;
 use std::alloc::Global;
 
@@ -50,8 +50,7 @@ fn is_signature(
         (base_uri_of scheme request.now.host.name request.now.host.port request.now.path) pairs.now secret.now [] sent.now) }
 {
     let uri = base_uri(alloc, scheme, &request.host, request.path.get())?;
-    let base = base_string(alloc, request.method.get(), uri.get(), pairs)?;
-    let text = signature(alloc, base.get(), secret, "")?;
+    let text = signature_of(alloc, request.method.get(), uri.get(), pairs, secret, "")?;
     let holds = is_same(&text, sent);
     Ok(holds)
 }

@@ -56,6 +56,12 @@ impl Field {
     }
 }
 
+/// The one signature method that is signed with and taken (RFC 5849, section 3.4.2).
+pub(crate) const SIGNATURE_METHOD: &str = "HMAC-SHA1";
+
+/// The one version that a request may state (RFC 5849, section 3.1).
+pub(crate) const VERSION: &str = "1.0";
+
 /// All parameters, in order.
 pub(crate) const FIELDS: [Field; 8] = [
     Field::ConsumerKey,

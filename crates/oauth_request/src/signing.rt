@@ -7,10 +7,11 @@ ghost use Rattle.oauth_request.specs.Signing.{CanSign, HoldsNone, IsSignatureOf,
 ghost use Rattle.oauth_request.specs.Protocol.{name_of};
 
 use crate::Field;
+use crate::fields::{SIGNATURE_METHOD, VERSION};
 use http_wire::Request;
 use itoa::Buffer;
 use lti_outside::{Bytes, NoMemory, Pair, Pairs, Tap, Text};
-use oauth_sign::{BodyHash, base_string, base_uri, hash_text, signature};
+use oauth_sign::{BodyHash, base_uri, hash_text, signature_of};
 use oauth_text::{FormFault, Url, pairs};
 use std::alloc::Global;
 
@@ -44,10 +45,10 @@ fn push_protocol(
 {
     let mut digits = Buffer::new();
     push_field(list, alloc, Field::ConsumerKey, key)?;
-    push_field(list, alloc, Field::SignatureMethod, "HMAC-SHA1")?;
+    push_field(list, alloc, Field::SignatureMethod, SIGNATURE_METHOD)?;
     push_field(list, alloc, Field::Timestamp, digits.format(moment))?;
     push_field(list, alloc, Field::Nonce, nonce)?;
-    push_field(list, alloc, Field::Version, "1.0")
+    push_field(list, alloc, Field::Version, VERSION)
 }
 
 // The signature of a POST to the URL with these parameters besides those of its query.
@@ -61,8 +62,7 @@ fn sign(alloc: Global, url: &Url, list: &Pairs, secret: &str) -> Result<Text, No
     };
     all.append(list.copy()?)?;
     let uri = base_uri(alloc, url.scheme, &url.host, url.path.get())?;
-    let base = base_string(alloc, "POST", uri.get(), &all)?;
-    signature(alloc, base.get(), secret, "")
+    signature_of(alloc, "POST", uri.get(), &all, secret, "")
 }
 
 /// The pairs of a signed form that is posted to the URL (RFC 5849, section 3.5.2): the fields, then the parameters of the

@@ -2,6 +2,7 @@
 ghost use Rattle.std.specs.Prelude.{◌≡◌, true, false, MatchOption};
 ghost use Rattle.oauth_request.specs.Protocol as spec;
 
+use crate::fields::{SIGNATURE_METHOD, VERSION};
 use crate::protocol::Protocol;
 use crate::{AuthFault, Field};
 use lti_outside::read_decimal;
@@ -59,7 +60,7 @@ fn is_other_version(version: Option<&str>) -> bool
     ensures { MatchOption version.entry (result ≡ false) (λ value. result ≡ spec.is_other_version value.now) }
 {
     match version {
-        Some(version) => version != "1.0",
+        Some(version) => version != VERSION,
         None => false,
     }
 }
@@ -105,7 +106,7 @@ impl Stated<'_> {
             × (length self.now.key.now ≤ field_limit) × (0 < length self.now.nonce.now) × (length self.now.nonce.now ≤ field_limit))
             (λ fault. first_fault (text_conditions field_limit pairs) ≡ Some fault) }
     {
-        if self.method != "HMAC-SHA1" {
+        if self.method != SIGNATURE_METHOD {
             return Err(AuthFault::UnsupportedMethod);
         }
         if is_other_version(self.version) {

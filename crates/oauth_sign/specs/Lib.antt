@@ -1,4 +1,5 @@
 pub mod BaseUri
 pub mod Body
+pub mod Feed
 pub mod Hmac
 pub mod Signature

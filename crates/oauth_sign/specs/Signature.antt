@@ -23,11 +23,11 @@ abbrev pub signing_key : List ℕ → List ℕ → List ℕ
 signing_key secret token_secret = escape secret ++ 38 ∷ escape token_secret
 
 -- the base64 text of the HMAC-SHA1 of the base string under that key (section 3.4.2)
-abbrev pub signature_of : List ℕ → List ℕ → List ℕ → List ℕ
-signature_of base secret token_secret = encode_of standard (hmac (signing_key secret token_secret) base)
+abbrev pub signature_text : List ℕ → List ℕ → List ℕ → List ℕ
+signature_text base secret token_secret = encode_of standard (hmac (signing_key secret token_secret) base)
 
 -- the text is the signature of the base string
 pub record IsSignature (method uri : List ℕ) (pairs : List Pair) (secret token_secret text : List ℕ) : Type 0 where
   pub base : List ℕ
   pub base_of : IsBaseString method uri pairs base
-  pub is : text ≡ signature_of base secret token_secret
+  pub is : text ≡ signature_text base secret token_secret

@@ -1,7 +1,7 @@
 //! Signatures by HMAC-SHA1 (RFC 5849, section 3.4.2).
 ghost use Rattle.std.specs.Prelude.{◌≡◌, IfOk};
 ghost use Rattle.std.specs.String.{string_bytes};
-ghost use Rattle.oauth_sign.specs.Signature.{signature_of, signing_key};
+ghost use Rattle.oauth_sign.specs.Signature.{signature_text, signing_key};
 
 use crate::mac::Mac;
 use base64::engine::general_purpose::STANDARD;
@@ -9,8 +9,12 @@ use lti_outside::{NoMemory, Text};
 use oauth_text::escape_into;
 use std::alloc::{AllocError, Global};
 
-// The two escaped secrets with `&` between them.
-fn key_text(alloc: Global, secret: &str, token_secret: &str) -> Result<String, AllocError>
+/// The two escaped secrets with `&` between them.
+pub(crate) fn key_text(
+    alloc: Global,
+    secret: &str,
+    token_secret: &str,
+) -> Result<String, AllocError>
     ensures { IfOk result (λ key. string_bytes key ≡ signing_key secret.now token_secret.now) }
 {
     let room = secret
@@ -32,7 +36,7 @@ pub fn signature(
     secret: &str,
     token_secret: &str,
 ) -> Result<Text, NoMemory>
-    ensures { IfOk result (λ text. text ≡ signature_of base.now secret.now token_secret.now) }
+    ensures { IfOk result (λ text. text ≡ signature_text base.now secret.now token_secret.now) }
 {
     let key = key_text(alloc, secret, token_secret)?;
     let mut mac = Mac::start(key.as_bytes());

@@ -1,5 +1,5 @@
-//! Published vectors.
-use crate::{BodyHash, Mac, base_string, base_uri, hash_text, signature};
+//! Published vectors, and signatures that Python's hmac made.
+use crate::{BodyHash, Mac, base_string, base_uri, hash_text, signature, signature_of};
 use lti_outside::{NoMemory, Pair, Pairs, Tap, Text};
 use oauth_text::{Host, Scheme};
 use std::alloc::Global;
@@ -200,5 +200,93 @@ fn signature_of_oauth_core(rt: HostRuntime) -> Result<(), Fail> {
         "pfkkdhi9sl3r4s00",
     )?;
     assert_eq!(rt; text.get(), "tR3+Ty81lMeYAr/Fid0kMTYa/WM=");
+    Ok(())
+}
+
+// RFC 5849, section 1.2.
+#[test]
+fn signature_of_rfc_5849(rt: HostRuntime) -> Result<(), Fail> {
+    let parameters = list(
+        rt.alloc(),
+        &[
+            ("file", "vacation.jpg"),
+            ("size", "original"),
+            ("oauth_consumer_key", "dpf43f3p2l4k3l03"),
+            ("oauth_token", "nnch734d00sl2jdk"),
+            ("oauth_signature_method", "HMAC-SHA1"),
+            ("oauth_timestamp", "137131202"),
+            ("oauth_nonce", "chapoH"),
+        ],
+    )?;
+    let text = signature_of(
+        rt.alloc(),
+        "GET",
+        "http://photos.example.net/photos",
+        &parameters,
+        "kd94hf93k423kf44",
+        "pfkkdhi9sl3r4s00",
+    )?;
+    assert_eq!(rt; text.get(), "MdpQcU8iPSUjWoN/UDMsK2sui9I=");
+    Ok(())
+}
+
+// Escaped, these stand in another order: `%`, `\u{e9}`, `A` with `%`, `{` and `1`, `A{`, `Az`, `A~`, `_`, `~`.
+#[test]
+fn signature_of_parameters_by_their_escaped_order(rt: HostRuntime) -> Result<(), Fail> {
+    let parameters = list(
+        rt.alloc(),
+        &[
+            ("~", ""),
+            ("_", "a"),
+            ("A", "1"),
+            ("\u{e9}", "\u{2603}"),
+            ("%", "~"),
+            ("A", "%"),
+            ("A", "{"),
+            ("A~", "="),
+            ("Az", ""),
+            ("A{", "&"),
+        ],
+    )?;
+    let text = signature_of(
+        rt.alloc(),
+        "post",
+        "https://www.example.net:8080/a b",
+        &parameters,
+        "s\u{e9}cret&",
+        "",
+    )?;
+    assert_eq!(rt; text.get(), "aC8O2WjZCxFpMuC7ddCxZBtr8Ws=");
+    Ok(())
+}
+
+// A text so many times.
+fn repeated(alloc: Global, text: &str, times: usize) -> Result<Text, NoMemory> {
+    let mut made = Text::empty(alloc);
+    for _ in 0..times {
+        made.push(text)?;
+    }
+    Ok(made)
+}
+
+// More bytes than are held at once.
+#[test]
+fn signature_of_long_values(rt: HostRuntime) -> Result<(), Fail> {
+    let mut parameters = Pairs::new(rt.alloc());
+    for (name, text, times) in [("text", "\u{2603}", 200), ("other", "a", 700)] {
+        parameters.push(Pair {
+            name: Text::new(rt.alloc(), name)?,
+            value: repeated(rt.alloc(), text, times)?,
+        })?;
+    }
+    let text = signature_of(
+        rt.alloc(),
+        "POST",
+        "http://example.com/",
+        &parameters,
+        "secret",
+        "",
+    )?;
+    assert_eq!(rt; text.get(), "lXz/CaczSYOZI0+8tCVnWtbpXUQ=");
     Ok(())
 }

@@ -4,4 +4,5 @@ pub mod HostLemmas
 pub mod PlaceLemmas
 pub mod TargetLemmas
 pub mod NormalLemmas
+pub mod OrderLemmas
 pub mod TrimLemmas

@@ -1,7 +1,7 @@
 pub mod Escape
 pub mod Form
 pub mod Normal
-pub mod Escaped
+pub mod Order
 pub mod Host
 pub mod Url
 pub mod UrlView

@@ -18,6 +18,47 @@ const RESERVED: AsciiSet = ascii_set!(
         .remove(b'~')
 );
 
+// Which bytes are unreserved, so that one look tells.
+const UNRESERVED: [bool; 256] = [
+    false, false, false, false, false, false, false, false, false, false, false, false, false,
+    false, false, false, false, false, false, false, false, false, false, false, false, false,
+    false, false, false, false, false, false, false, false, false, false, false, false, false,
+    false, false, false, false, false, false, true, true, false, true, true, true, true, true,
+    true, true, true, true, true, false, false, false, false, false, false, false, true, true,
+    true, true, true, true, true, true, true, true, true, true, true, true, true, true, true, true,
+    true, true, true, true, true, true, true, true, false, false, false, false, true, false, true,
+    true, true, true, true, true, true, true, true, true, true, true, true, true, true, true, true,
+    true, true, true, true, true, true, true, true, true, false, false, false, true, false, false,
+    false, false, false, false, false, false, false, false, false, false, false, false, false,
+    false, false, false, false, false, false, false, false, false, false, false, false, false,
+    false, false, false, false, false, false, false, false, false, false, false, false, false,
+    false, false, false, false, false, false, false, false, false, false, false, false, false,
+    false, false, false, false, false, false, false, false, false, false, false, false, false,
+    false, false, false, false, false, false, false, false, false, false, false, false, false,
+    false, false, false, false, false, false, false, false, false, false, false, false, false,
+    false, false, false, false, false, false, false, false, false, false, false, false, false,
+    false, false, false, false, false, false, false, false, false, false, false, false, false,
+    false, false, false, false, false, false, false, false, false, false,
+];
+
+/// Whether the byte is a letter, a digit, `-`, `.`, `_` or `~`, which an escape leaves as it is (RFC 5849, section 3.6).
+pub fn is_unreserved(byte: u8) -> bool
+    ensures { result ≡ spec.is_unreserved byte }
+{
+    UNRESERVED[byte as usize]
+}
+
+/// A number that orders bytes as their escapes stand in byte order.
+pub(crate) fn rank(byte: u8) -> u16
+    ensures { result ≡ spec.rank byte }
+{
+    if is_unreserved(byte) {
+        256 + u16::from(byte)
+    } else {
+        u16::from(byte)
+    }
+}
+
 /// Appends the escaped text to `out`. On an error nothing is appended.
 pub fn escape_into(out: &mut String, text: &str) -> Result<(), AllocError>
     ensures ok { OnOk result (string_bytes out.new ≡ string_bytes out.old ++ spec.escape text.now) }

@@ -12,16 +12,18 @@ mod form_texts;
 mod forms;
 mod host;
 mod normal;
+mod order;
 mod places;
 #[cfg(test)]
 mod tests;
 mod url;
 
 pub use blanks::{is_blank, trim_end, trim_front};
-pub use escapes::{escape, escape_into};
+pub use escapes::{escape, escape_into, is_unreserved};
 pub use form_texts::form_text;
 pub use forms::{FormFault, pairs};
 pub use host::{Host, HostFault};
 pub use normal::normalised;
+pub use order::{Parameter, ordered};
 pub use places::{first_place, place_of};
 pub use url::{Scheme, Url, UrlFault};

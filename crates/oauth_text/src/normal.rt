@@ -1,82 +1,53 @@
 //! The normal form of a list of parameters (RFC 5849, section 3.4.1.3.2).
 ghost use Rattle.std.specs.Prelude.{◌≡◌, ◌++◌, ℕ, List, map, IfOk, OnOk};
 ghost use Rattle.std.specs.String.{string_bytes};
-ghost use Rattle.oauth_text.specs.Escaped.{pair_of};
-ghost use Rattle.oauth_text.specs.Normal.{escaped_pair, pair_text, joined, IsOrderOf, IsNormal};
+ghost use Rattle.oauth_text.specs.Order.{escaped_parameter};
+ghost use Rattle.oauth_text.specs.Normal.{pair_text, joined, IsNormal};
 
-use crate::escapes::escaped;
-use lti_outside::{NoMemory, Pair, Pairs, Text};
+use crate::escapes::escape_into;
+use crate::order::{Parameter, ordered};
+use lti_outside::{NoMemory, Pairs, Text};
 use std::alloc::{AllocError, Global};
-use std::borrow::CowStr;
 
-/// A parameter with its name and its value escaped, each borrowed where nothing needs an escape.
-#[derive(PartialEq, Eq, PartialOrd, Ord, Drop)]
-struct Escaped<'a> {
-    name: CowStr<'a, Global>,
-    value: CowStr<'a, Global>,
-}
-
-// Each pair with its name and its value escaped.
-fn escaped_pairs(alloc: Global, pairs: &[Pair]) -> Result<Vec<Escaped<'_>>, NoMemory>
-    ensures { IfOk result (λ made. map pair_of made.items ≡ map escaped_pair pairs.now) }
-{
-    let mut made = Vec::with_capacity(alloc, pairs.len())?;
-    for pair in pairs {
-        let name = escaped(alloc, pair.name.get())?;
-        let value = escaped(alloc, pair.value.get())?;
-        made.push(Escaped { name, value })?;
-    }
-    Ok(made)
-}
-
-// The escaped pairs in order.
-fn ordered_pairs(alloc: Global, pairs: &[Pair]) -> Result<Vec<Escaped<'_>>, NoMemory>
-    ensures { IfOk result (λ order. IsOrderOf pairs.now (map pair_of order.items)) }
-{
-    let mut escaped = escaped_pairs(alloc, pairs)?;
-    escaped.sort_unstable();
-    Ok(escaped)
-}
-
-// How long the pairs' text is, or the greatest number where it is longer.
-fn joined_len(pairs: &[Escaped<'_>]) -> usize {
-    pairs.iter().fold(0usize, |len, pair| {
-        len.saturating_add(pair.name.len())
-            .saturating_add(pair.value.len())
+// How long the parameters' text is where nothing is escaped, or the greatest number where it is longer.
+fn least_len(order: &[Parameter<'_>]) -> usize {
+    order.iter().fold(0usize, |len, parameter| {
+        len.saturating_add(parameter.name.len())
+            .saturating_add(parameter.value.len())
             .saturating_add(2)
     })
 }
 
-// Appends the name, `=` and the value.
-fn push_pair(text: &mut String, pair: &Escaped<'_>) -> Result<(), AllocError>
-    ensures { OnOk result (string_bytes text.new ≡ string_bytes text.old ++ pair_text (pair_of pair.now)) }
+// Appends the escaped name, `=` and the escaped value.
+fn push_parameter(text: &mut String, parameter: &Parameter<'_>) -> Result<(), AllocError>
+    ensures { OnOk result (string_bytes text.new ≡ string_bytes text.old ++ pair_text (escaped_parameter parameter.now)) }
 {
-    text.push_str(pair.name.as_str())?;
+    escape_into(text, parameter.name)?;
     text.push_str("=")?;
-    text.push_str(pair.value.as_str())
+    escape_into(text, parameter.value)
 }
 
-// The pairs' texts, with `&` between them.
-fn joined_text(alloc: Global, pairs: &[Escaped<'_>]) -> Result<String, AllocError>
-    ensures { IfOk result (λ text. string_bytes text ≡ joined (map pair_of pairs.now)) }
+// The escaped parameters' texts, with `&` between them.
+fn joined_text(alloc: Global, order: &[Parameter<'_>]) -> Result<String, AllocError>
+    ensures { IfOk result (λ text. string_bytes text ≡ joined (map escaped_parameter order.now)) }
 {
-    let mut text = String::with_capacity(alloc, joined_len(pairs))?;
-    let Some((first, others)) = pairs.split_first() else {
+    let mut text = String::with_capacity(alloc, least_len(order))?;
+    let Some((first, others)) = order.split_first() else {
         return Ok(text);
     };
-    push_pair(&mut text, first)?;
-    for pair in others {
+    push_parameter(&mut text, first)?;
+    for parameter in others {
         text.push_str("&")?;
-        push_pair(&mut text, pair)?;
+        push_parameter(&mut text, parameter)?;
     }
     Ok(text)
 }
 
-// The escaped pairs in order, joined by `=` and `&`.
+// The escaped parameters in order, joined by `=` and `&`.
 fn ordered_text(alloc: Global, pairs: &Pairs) -> Result<Text, NoMemory>
     ensures { IfOk result (IsNormal pairs.now) }
 {
-    let order = ordered_pairs(alloc, pairs.as_slice())?;
+    let order = ordered(alloc, pairs)?;
     Ok(Text::from_string(joined_text(alloc, &order)?))
 }
 
