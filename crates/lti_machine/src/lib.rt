@@ -13,8 +13,6 @@ mod entry;
 mod entry_fault;
 mod entry_parts;
 mod entry_reading;
-#[cfg(test)]
-mod entry_tests;
 mod entry_writing;
 mod laws;
 mod nonces;
@@ -23,8 +21,6 @@ mod reply;
 mod rules;
 mod solo;
 mod standing;
-#[cfg(test)]
-mod tests;
 mod verdict;
 
 pub use call::{Action, Call, GREATEST_MOMENT};
