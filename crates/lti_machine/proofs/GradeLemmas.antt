@@ -5,11 +5,10 @@ use Rattle.std.specs.Cmp.Lexicographic.{bytes_decides}
 use Rattle.std.proofs.lemmas.Bool.{cond-true, cond-false, cond_both, or_parts}
 use Rattle.std.proofs.lemmas.List.Sums.{fold-append}
 use Rattle.lti_machine.specs.History.{Member, IsByRules, AcceptsByRules, is_change, changes, GradeIsTold}
-use Rattle.lti_machine.specs.Rules.{decide, after, entry_of, effect_of, now_of, verdict_of, result, result_of, standing_of, id_of, reply_by, is_acceptance, is_issue}
+use Rattle.lti_machine.specs.Rules.{after, entry_of, effect_of, now_of, verdict_of, result, result_of, standing_of, id_of, reply_by, is_acceptance, is_issue}
 use Rattle.lti_machine.specs.Standings.{standing, after_entry, after_effect, when_set}
 use Rattle.lti_machine.specs.declared.call.Action.{Action}
 use Rattle.lti_machine.specs.declared.call.Action.TheVariants as action
-use Rattle.lti_machine.specs.declared.call.Call.{Call}
 use Rattle.lti_machine.specs.declared.entry.Effect.{Effect}
 use Rattle.lti_machine.specs.declared.entry.Entry.{Entry}
 use Rattle.lti_machine.specs.declared.reply.Reply.{Reply}

@@ -1,7 +1,7 @@
 -- Histories by the rules, whatever machine they were asked of.
-use Rattle.std.proofs.Common.{◌≡◌, ℕ, true, false, true≢false, List, [], ◌∷◌, ◌++◌, refl, sym, ap, ◌∙◌, subst, ⊎_elim}
-use Rattle.lti_machine.specs.History.{Member, after_all, IsByRules, AcceptsByRules, Leads, GoesByRules, Decides, PlainGoesByRules}
-use Rattle.lti_machine.specs.Rules.{decide, after, is_acceptance, Answers}
+use Rattle.std.proofs.Common.{◌≡◌, ℕ, true, true≢false, List, [], ◌∷◌, ◌++◌, refl, sym, ap, ◌∙◌, subst, ⊎_elim}
+use Rattle.lti_machine.specs.History.{Member, after_all, AcceptsByRules, Leads, GoesByRules, KeepsToRules, AnyGoesByRules, Decides, PlainGoesByRules}
+use Rattle.lti_machine.specs.Rules.{decide, is_acceptance, Answers}
 use Rattle.lti_machine.specs.declared.call.Call.{Call}
 use Rattle.lti_machine.specs.declared.entry.Entry.{Entry}
 use Rattle.lti_machine.specs.declared.reply.Reply.{Reply}
@@ -16,6 +16,15 @@ led_by_rules window entries_of step goes from to (m ∷ ms) (next, this, leads) 
       (goes.accepts from next m.0 m.1 this, subst (λ (es : List Entry). AcceptsByRules window es ms) kept accepts),
       subst (λ (es : List Entry). entries_of to ≡ after_all es ms) kept ends,
     )
+
+pub keeping_goes : (window : ℕ) → GoesByRules window (λ (es : List Entry). es) (KeepsToRules window)
+keeping_goes window = record {
+  accepts = λ from next call given this. this.0;
+  keeps = λ from next call given this. this.1;
+}
+
+pub any_goes_by_rules : AnyGoesByRules
+any_goes_by_rules window from to told = led_by_rules window (λ (es : List Entry). es) (KeepsToRules window) (keeping_goes window) from to told
 
 -- an acceptance is the reply that the rules decide
 pub accepted_is_decided : (decided given : Reply) → Answers decided given → is_acceptance given ≡ true → given ≡ decided

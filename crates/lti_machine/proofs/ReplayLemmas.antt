@@ -6,7 +6,7 @@ use Rattle.std.proofs.lemmas.Bool.{cond-true, cond-false, cond_both, and_from}
 use Rattle.std.proofs.lemmas.List.Folds.{list_any-append}
 use Rattle.std.proofs.lemmas.Bool.Decides.{nat_tests}
 use Rattle.lti_machine.specs.Nonces.{Stamp, same_stamp, stamp_of, stamp_of_call, is_signed, is_of_key, uses, stands, is_inside, verdict, live}
-use Rattle.lti_machine.specs.History.{Member, after_all, IsByRules, AcceptsByRules, NoNonceThatStoodIsAccepted, NoNonceIsAcceptedTwice}
+use Rattle.lti_machine.specs.History.{Member, IsByRules, NoNonceThatStoodIsAccepted, NoNonceIsAcceptedTwice}
 use Rattle.lti_machine.specs.Rules.{decide, after, entry_of, now_of, verdict_of, result, reply_by, is_acceptance, is_issue}
 use Rattle.lti_machine.specs.declared.call.Call.{Call}
 use Rattle.lti_machine.specs.declared.entry.Entry.{Entry}

@@ -8,9 +8,8 @@ use Rattle.lti_machine.specs.declared.standing.Standing.{Standing}
 use Rattle.lti_machine.specs.declared.standing.Standing.TheVariants.{Unknown, Empty, Scored}
 use Rattle.lti_machine.specs.Rules.{high}
 use Rattle.lti_machine.specs.Rows.{RowValue, rows_of}
-use Rattle.lti_machine.specs.Placements.{PlacedValue}
+use Rattle.lti_machine.specs.Placements.{PlacedValue, placed_of}
 use Rattle.lti_machine.specs.Used.{Used, used}
-use Rattle.lti_machine.specs.Placements.{placed_of}
 
 -- the effect under its key, at moment 0 and without a nonce
 abbrev pub plain_entry : List ℕ → Effect → Entry

@@ -39,6 +39,17 @@ pub record GoesByRules {S : Type 0} (window : ℕ) (entries_of : S → List Entr
   pub accepts : (from next : S) (call : Call) (given : Reply) → step from call given next → is_acceptance given ≡ true → given ≡ decide (entries_of from) call window
   pub keeps : (from next : S) (call : Call) (given : Reply) → step from call given next → entries_of next ≡ after (entries_of from) call given
 
+-- A step of whatever machine goes by the rules, seen by its list alone: what is accepted was told what they decide over the
+-- list, which gains its entry. Of what isn't accepted nothing is asked but that the list stays.
+abbrev pub KeepsToRules : ℕ → List Entry → Call → Reply → List Entry → Type 0
+KeepsToRules window from call given to = IsByRules window from (call, given) × (to ≡ after from call given)
+
+-- what such a machine was asked is a history by the rules, down to its entries
+abbrev pub AnyGoesByRules : Type 0
+AnyGoesByRules =
+    (window : ℕ) (from to : List Entry) (told : List Member)
+    → Leads (KeepsToRules window) from told to → AcceptsByRules window from told × (to ≡ after_all from told)
+
 -- the step of the plain machine, whose state is its list
 abbrev pub Decides : ℕ → List Entry → Call → Reply → List Entry → Type 0
 Decides window from call given to = Answers (decide from call window) given × (to ≡ after from call given)

@@ -3,9 +3,8 @@ use Rattle.std.specs.Prelude.{ℕ, List}
 use Rattle.lti_machine.specs.declared.entry.Entry.{Entry}
 use Rattle.lti_machine.specs.Rules.{high}
 use Rattle.lti_machine.specs.Rows.{RowValue, rows_of}
-use Rattle.lti_machine.specs.Placements.{PlacedValue}
+use Rattle.lti_machine.specs.Placements.{PlacedValue, placed_of}
 use Rattle.lti_machine.specs.Used.{Used, used}
-use Rattle.lti_machine.specs.Placements.{placed_of}
 
 pub record Summary : Type 0 where
   -- the greatest moment

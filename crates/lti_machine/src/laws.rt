@@ -1,6 +1,6 @@
 // Laws of the bytes of entries, of summaries, and of histories.
 ghost use Rattle.lti_machine.specs.EntryBytes.{HasOneReading, AcceptedIsBounded};
-ghost use Rattle.lti_machine.specs.History.{PlainGoesByRules, NoNonceThatStoodIsAccepted, NoNonceIsAcceptedTwice, GradeIsTold};
+ghost use Rattle.lti_machine.specs.History.{AnyGoesByRules, PlainGoesByRules, NoNonceThatStoodIsAccepted, NoNonceIsAcceptedTwice, GradeIsTold};
 ghost use Rattle.lti_machine.specs.StandingLaws.{UnknownUntilIssued, EmptyUntilGraded, LastDecides};
 ghost use Rattle.lti_machine.specs.SummaryLaws.{DigestServesAtMoment, DigestServes, SummaryDecides, SummaryGoesOn, SummaryGoesOnAfter, LiveIsPart, DigestIsInRange};
 
@@ -48,6 +48,14 @@ pub fn live_is_part()
 /// The digest of entries that can be kept and read again can be, too.
 pub fn digest_is_in_range()
     ensures { DigestIsInRange }
+{}
+
+/// What any machine was asked that goes by the rules, one call behind another, is a history by the rules: where each call that
+/// is accepted is told what they decide over the machine's list, and the list gains an entry for each of these calls and no
+/// other, all of the history does so, from its first list to its last. What the machine says to calls that it doesn't accept is
+/// its own.
+pub fn a_history_goes_by_the_rules()
+    ensures { AnyGoesByRules }
 {}
 
 /// What a `Solo` was asked, one call behind another, is a history by the rules: each call that was accepted was told what they

@@ -13,8 +13,6 @@ mod entry;
 mod entry_fault;
 mod entry_parts;
 mod entry_reading;
-#[cfg(test)]
-mod entry_tests;
 mod entry_writing;
 mod laws;
 mod nonces;
@@ -23,8 +21,6 @@ mod reply;
 mod rules;
 mod solo;
 mod standing;
-#[cfg(test)]
-mod tests;
 mod verdict;
 
 pub use call::{Action, Call, GREATEST_MOMENT};
@@ -33,7 +29,7 @@ pub use entry_fault::EntryFault;
 pub use entry_reading::read_entry;
 pub use entry_writing::{call_len, entry_bytes, entry_len};
 pub use laws::{
-    a_grade_is_told_as_it_was_set, a_grade_stands_by_its_last_entry,
+    a_grade_is_told_as_it_was_set, a_grade_stands_by_its_last_entry, a_history_goes_by_the_rules,
     a_plain_history_goes_by_the_rules, an_accepted_call_is_in_its_bounds, an_entry_has_one_reading,
     digest_is_in_range, digest_serves, digest_serves_at_moment, live_is_part,
     no_nonce_is_accepted_twice, summary_decides, summary_goes_on, summary_goes_on_after,
