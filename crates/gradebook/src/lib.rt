@@ -12,8 +12,6 @@ mod placement;
 mod placements;
 mod row;
 mod standings;
-#[cfg(test)]
-mod tests;
 mod texts;
 
 pub use book::Gradebook;

@@ -1,11 +1,10 @@
 // The table of the issued ids.
-ghost use Rattle.std.specs.Prelude.{◌≡◌, ◌<◌, length, OnOk, IsTrue, Some, slice_get};
+ghost use Rattle.std.specs.Prelude.{◌≡◌, ◌<◌, OnOk, Some};
 ghost use Rattle.lti_machine.specs.declared.standing.Standing.TheVariants.{Empty};
 ghost use Rattle.indexmap.specs.IndexMap.{spare};
-ghost use Rattle.lti_machine.specs.Rows.{standing_in};
+ghost use Rattle.lti_machine.specs.Rows.{standing_in, set_row, add_row};
 ghost use Rattle.gradebook.specs.Texts.{IsKnown, Keeps};
 ghost use Rattle.gradebook.specs.Tables.{rows_at, AreRowsWithin, IsOwnedNumber};
-ghost use Rattle.lti_machine.specs.Rows.{has_row, set_row, add_row};
 
 use crate::texts::Texts;
 use indexmap::IndexMap;

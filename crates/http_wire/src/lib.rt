@@ -23,8 +23,6 @@ mod response;
 mod sound;
 mod taking;
 mod target;
-#[cfg(test)]
-mod tests;
 mod values;
 mod wire;
 mod written;
