@@ -1,12 +1,11 @@
 -- What a message in pieces stands for.
-use Rattle.std.proofs.Common.{◌≡◌, ◌<◌, ◌≤◌, ℕ, ◌+◌, ◌/◌, ◌%◌, true, false, cond, List, [], ◌∷◌, ◌++◌, length, take, get_or, set, map, flat_map, subst, refl, sym, ap, ◌∙◌, append_assoc, append-nil}
+use Rattle.std.proofs.Common.{◌≡◌, ◌<◌, ◌≤◌, ℕ, ◌+◌, List, [], ◌∷◌, ◌++◌, length, take, get_or, map, flat_map, subst, sym, ap, ◌∙◌, append_assoc, append-nil}
 use Rattle.std.specs.List.{AllByRecursion}
-use Rattle.std.specs.Fmt.{digit_glyph}
 use Rattle.std.specs.Str.{str_to_ascii_uppercase}
 use Rattle.std.proofs.lemmas.List.{take_more, take_all, map-append}
 use Rattle.std.proofs.lemmas.Grind.{flat_map-append}
 use Rattle.lti_outside.specs.declared.pairs.Pair.{Pair}
-use Rattle.oauth_text.specs.Escape.{is_unreserved, escape_byte, escape, twice_escaped_byte}
+use Rattle.oauth_text.specs.Escape.{escape_byte, escape, twice_escaped_byte}
 use Rattle.oauth_text.specs.Normal.{pair_text, joined}
 use Rattle.oauth_text.proofs.EscapeLemmas.{escape-append, escape_bytes, escape_one, twice_escaped_bytes}
 use Rattle.oauth_sign.specs.declared.feed.Feed.{Feed}
@@ -21,19 +20,6 @@ takes_then a b c p q first then = λ key message stands.
 pub takes_nothing : (a : Feed) → Takes a a []
 takes_nothing a = λ key message stands. rw append-nil stands
 
--- a reserved byte that is escaped twice
-pub takes_spelt : (a b c d e f g : Feed) (byte high low : ℕ) → is_unreserved byte ≡ false → high ≡ digit_glyph true (byte / 16) → low ≡ digit_glyph true (byte % 16)
-    → Takes a b [] → Takes b c (37 ∷ []) → Takes c d (50 ∷ []) → Takes d e (53 ∷ []) → Takes e f (high ∷ []) → Takes f g (low ∷ []) → Takes a g (twice_escaped_byte byte)
-takes_spelt a b c d e f g byte high low reserved high_is low_is room percent two five up down =
-    let spelt : 37 ∷ 50 ∷ 53 ∷ high ∷ low ∷ [] ≡ twice_escaped_byte byte =
-    (λ i. 37 ∷ 50 ∷ 53 ∷ high_is i ∷ low_is i ∷ [])
-    ∙ ap (λ t. cond t (byte ∷ []) (37 ∷ 50 ∷ 53 ∷ digit_glyph true (byte / 16) ∷ digit_glyph true (byte % 16) ∷ [])) (sym reserved) in
-    subst (λ p. Takes a g p) spelt
-    (takes_then a f g (37 ∷ 50 ∷ 53 ∷ high ∷ []) (low ∷ [])
-    (takes_then a e f (37 ∷ 50 ∷ 53 ∷ []) (high ∷ [])
-    (takes_then a d e (37 ∷ 50 ∷ []) (53 ∷ [])
-    (takes_then a c d (37 ∷ []) (50 ∷ []) (takes_then a b c [] (37 ∷ []) room percent) two) five) up) down)
-
 -- once nothing is held, the code was fed the whole message
 pub emptied : (f : Feed) (key message : List ℕ) (stands : StandsFor f key (message ++ [])) → f.len ≡ 0 → stands.fed ≡ message
 emptied f key message stands none =
@@ -44,9 +30,9 @@ pub all_escaped : (a b : Feed) (text bytes : List ℕ) (i : ℕ) → bytes ≡ t
 all_escaped a b text bytes i same far taken =
     subst (λ p. Takes a b p) (ap (flat_map escape_byte) (take_all i bytes far ∙ same) ∙ escape_bytes text) taken
 
-pub all_twice_escaped : (a b : Feed) (text bytes : List ℕ) (i : ℕ) → AllByRecursion (λ x. x < 256) text → bytes ≡ text → length bytes ≤ i → Takes a b (flat_map twice_escaped_byte (take i bytes)) → Takes a b (escape (escape text))
-all_twice_escaped a b text bytes i small same far taken =
-    subst (λ p. Takes a b p) (ap (flat_map twice_escaped_byte) (take_all i bytes far ∙ same) ∙ twice_escaped_bytes text small) taken
+pub text_twice_escaped : (a b : Feed) (text bytes : List ℕ) → AllByRecursion (λ x. x < 256) text → bytes ≡ text → Takes a b (flat_map twice_escaped_byte bytes) → Takes a b (escape (escape text))
+text_twice_escaped a b text bytes small same taken =
+    subst (λ p. Takes a b p) (ap (flat_map twice_escaped_byte) same ∙ twice_escaped_bytes text small) taken
 
 -- an escaped text, an escaped byte and another escaped text
 pub separated : (s : ℕ) (a b c d : Feed) (xs ys : List ℕ) → Takes a b (escape xs) → Takes b c (escape_byte s) → Takes c d (escape ys) → Takes a d (escape (xs ++ s ∷ ys))

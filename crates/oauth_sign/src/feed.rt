@@ -1,6 +1,7 @@
 //! HMAC-SHA1 of a message that is spelt byte by byte.
-ghost use Rattle.std.specs.Prelude.{◌≡◌, ◌<◌, true};
+ghost use Rattle.std.specs.Prelude.{◌≡◌, ◌<◌, ◌≤◌, ◌+◌, ◌*◌, true, [], ◌∷◌, ◌++◌, length, take, flat_map};
 ghost use Rattle.std.specs.Fmt.{digit_glyph};
+ghost use Rattle.oauth_text.specs.Escape.{twice_escaped_byte};
 
 use crate::mac::Mac;
 use oauth_text::{Parameter, is_unreserved};
@@ -8,8 +9,8 @@ use oauth_text::{Parameter, is_unreserved};
 // How many bytes are held at most before they are fed.
 const ROOM: usize = 512;
 
-// The longest spelling of a byte.
-const LONGEST: usize = 5;
+// How many bytes there is always room for, where each is escaped twice: such an escape has at most five bytes.
+const FEW: usize = 100;
 
 /// A code under way with the bytes that it is yet to be fed, so that it is fed many at once. It takes no memory.
 #[derive(Drop)]
@@ -32,8 +33,51 @@ fn digit(number: u8) -> u8
     }
 }
 
+// Writes a byte at a place.
+fn put(block: &mut [u8], at: usize, byte: u8)
+    requires { at < length block.old }
+    ensures len { length block.new ≡ length block.old }
+    ensures put { take (at + 1) block.new ≡ take at block.old ++ byte ∷ [] }
+{
+    block[at] = byte;
+}
+
+// Writes a byte, escaped twice, from a place on, and gives the place behind it.
+fn put_twice_escaped(block: &mut [u8], at: usize, byte: u8) -> usize
+    requires { at + 5 ≤ length block.old }
+    ensures len { length block.new ≡ length block.old }
+    ensures end { result ≤ at + 5 }
+    ensures put { take result block.new ≡ take at block.old ++ twice_escaped_byte byte }
+{
+    if is_unreserved(byte) {
+        put(block, at, byte);
+        return at + 1;
+    }
+    put(block, at, b'%');
+    put(block, at + 1, b'2');
+    put(block, at + 2, b'5');
+    put(block, at + 3, digit(byte / 16));
+    put(block, at + 4, digit(byte % 16));
+    at + 5
+}
+
+// Writes bytes, each escaped twice, from a place on, and gives the place behind them. The place is a number of its own
+// and no field, which would be written back at each byte.
+fn put_all(block: &mut [u8], at: usize, bytes: &[u8]) -> usize
+    requires { at + 5 * length bytes.now ≤ length block.old }
+    ensures len { length block.new ≡ length block.old }
+    ensures end { result ≤ at + 5 * length bytes.now }
+    ensures put { take result block.new ≡ take at block.old ++ flat_map twice_escaped_byte bytes.now }
+{
+    let mut end = at;
+    for byte in bytes {
+        end = put_twice_escaped(block, end, *byte);
+    }
+    end
+}
+
 impl Feed {
-    ghost use Rattle.std.specs.Prelude.{◌≡◌, ◌<◌, ◌≤◌, ◌+◌, ℕ, List, [], ◌∷◌, map, flat_map};
+    ghost use Rattle.std.specs.Prelude.{◌≡◌, ◌<◌, ◌≤◌, ◌+◌, ℕ, List, [], ◌∷◌, length, map, flat_map};
     ghost use Rattle.std.specs.Str.{str_to_ascii_uppercase};
     ghost use Rattle.oauth_text.specs.Escape.{escape_byte, twice_escaped_byte, escape};
     ghost use Rattle.oauth_text.specs.Normal.{pair_text, joined};
@@ -63,13 +107,14 @@ impl Feed {
         self.len = 0;
     }
 
-    // Makes room for the longest spelling.
-    fn make_room(&mut self)
-        requires { self.old.len ≤ 512 }
-        ensures room { self.new.len ≤ 507 }
+    // Makes room for so many bytes.
+    fn make_room(&mut self, count: usize)
+        requires len { self.old.len ≤ 512 }
+        requires count { count ≤ 512 }
+        ensures room { self.new.len + count ≤ 512 }
         ensures same { Takes self.old self.new [] }
     {
-        if self.len > ROOM - LONGEST {
+        if self.len > ROOM - count {
             self.flush();
         }
     }
@@ -90,7 +135,7 @@ impl Feed {
         ensures room { self.new.len ≤ 512 }
         ensures taken { Takes self.old self.new (byte ∷ []) }
     {
-        self.make_room();
+        self.make_room(1);
         self.hold(byte);
     }
 
@@ -100,29 +145,11 @@ impl Feed {
         ensures room { self.new.len ≤ 512 }
         ensures taken { Takes self.old self.new (escape_byte byte) }
     {
-        self.make_room();
+        self.make_room(3);
         if is_unreserved(byte) {
             self.hold(byte);
         } else {
             self.hold(b'%');
-            self.hold(digit(byte / 16));
-            self.hold(digit(byte % 16));
-        }
-    }
-
-    // Adds a byte that is escaped twice.
-    fn push_twice_escaped(&mut self, byte: u8)
-        requires { self.old.len ≤ 512 }
-        ensures room { self.new.len ≤ 512 }
-        ensures taken { Takes self.old self.new (twice_escaped_byte byte) }
-    {
-        self.make_room();
-        if is_unreserved(byte) {
-            self.hold(byte);
-        } else {
-            self.hold(b'%');
-            self.hold(b'2');
-            self.hold(b'5');
             self.hold(digit(byte / 16));
             self.hold(digit(byte % 16));
         }
@@ -150,14 +177,39 @@ impl Feed {
         }
     }
 
+    // Adds a few bytes, each escaped twice.
+    fn push_few(&mut self, bytes: &[u8])
+        requires len { self.old.len ≤ 512 }
+        requires few { length bytes.now ≤ 100 }
+        ensures room { self.new.len ≤ 512 }
+        ensures taken { Takes self.old self.new (flat_map twice_escaped_byte bytes.now) }
+    {
+        self.make_room(5 * bytes.len());
+        self.len = put_all(&mut self.held, self.len, bytes);
+    }
+
+    // Adds bytes, each escaped twice.
+    fn push_many(&mut self, bytes: &[u8])
+        requires { self.old.len ≤ 512 }
+        ensures room { self.new.len ≤ 512 }
+        ensures taken { Takes self.old self.new (flat_map twice_escaped_byte bytes.now) }
+    {
+        for byte in bytes {
+            self.push_few(&[*byte]);
+        }
+    }
+
     // Adds a text that is escaped twice.
     fn push_twice_escaped_text(&mut self, text: &str)
         requires { self.old.len ≤ 512 }
         ensures room { self.new.len ≤ 512 }
         ensures taken { Takes self.old self.new (escape (escape text.now)) }
     {
-        for byte in text.as_bytes() {
-            self.push_twice_escaped(*byte);
+        let bytes = text.as_bytes();
+        if bytes.len() <= FEW {
+            self.push_few(bytes);
+        } else {
+            self.push_many(bytes);
         }
     }
 

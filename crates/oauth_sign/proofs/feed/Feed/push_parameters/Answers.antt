@@ -1,9 +1,5 @@
-use Rattle.std.proofs.Common.{◌∷◌, [], ◌++◌, map, take, flat_map, ap, sym, subst, arith}
 use Rattle.std.proofs.lemmas.List.{nil_from_length}
-use Rattle.oauth_text.specs.Escape.{escape}
-use Rattle.oauth_text.specs.Normal.{pair_text, joined}
 use Rattle.oauth_text.specs.Order.{escaped_parameter}
-use Rattle.oauth_sign.specs.Feed.{Takes}
 use Rattle.oauth_sign.proofs.FeedLemmas.{takes_empty, next_joined, all_joined}
 use Rattle.oauth_sign.proofs.feed.Feed.push_parameters.Goals as goal
 
