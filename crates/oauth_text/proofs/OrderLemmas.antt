@@ -1,5 +1,5 @@
 -- Escaped texts stand in byte order as the ranks of their bytes do.
-use Rattle.std.proofs.Common.{◌≡◌, ◌<◌, ◌≤◌, ℕ, zero, suc, ◌+◌, ◌/◌, ◌%◌, min, Bool, true, false, cond, List, [], ◌∷◌, ◌++◌, get_or, drop, length, refl, sym, ap, ◌∙◌, arith, Less, Equal, Greater, Ordering, nat_cmp, length-drop, add-one}
+use Rattle.std.proofs.Common.{◌≡◌, ◌<◌, ◌≤◌, ℕ, suc, ◌+◌, ◌/◌, ◌%◌, min, Bool, true, false, cond, List, [], ◌∷◌, ◌++◌, get_or, drop, length, refl, sym, ap, ◌∙◌, arith, Less, Equal, Greater, Ordering, nat_cmp, length-drop, add-one}
 use Rattle.std.specs.Ordering.{ordering_then, ordering_reverse, MatchOrdering}
 use Rattle.std.specs.Cmp.{ranks}
 use Rattle.std.specs.Cmp.Lexicographic.{slice_cmp, nat_list_cmp_total}

@@ -1,5 +1,4 @@
 -- Parameters in the order of their escaped texts, with none escaped (RFC 5849, section 3.4.1.3.2).
-use Rattle.std.specs.Prelude.{ℕ, ◌+◌, if◌then◌else◌}
 use Rattle.std.specs.Cmp.{IsTotalOrder, then_total, on_total}
 use Rattle.std.specs.Cmp.Lexicographic.{nat_list_cmp_total}
 use Rattle.std.specs.declared.cmp.Ordering.{Ordering}

@@ -1,6 +1,7 @@
 //! Published examples, and one case for each refusal.
 use crate::{
-    FormFault, Host, HostFault, Scheme, Url, UrlFault, escape, form_text, normalised, pairs,
+    FormFault, Host, HostFault, Scheme, Url, UrlFault, escape, form_text, is_unreserved,
+    normalised, ordered, pairs,
 };
 use lti_outside::{NoMemory, Pair, Pairs, Text};
 use std::alloc::Global;
@@ -33,6 +34,8 @@ fn escapes(rt: HostRuntime) -> Result<(), Fail> {
         let escaped = escape(rt.alloc(), text)?;
         assert_eq!(rt; escaped.get(), want);
     }
+    assert!(rt; is_unreserved(b'~'));
+    assert!(rt; !is_unreserved(b'%'));
     Ok(())
 }
 
@@ -41,6 +44,9 @@ fn orders_by_escaped_name_and_then_by_escaped_value(rt: HostRuntime) -> Result<(
     let braces = list(rt.alloc(), &[("az", ""), ("a{", "")])?;
     let text = normalised(rt.alloc(), &braces)?;
     assert_eq!(rt; text.get(), "a%7B=&az=");
+    let order = ordered(rt.alloc(), &braces)?;
+    let first = order.first().ok_or("no parameter")?;
+    assert_eq!(rt; first.name, "a{");
     let equal_names = list(
         rt.alloc(),
         &[("a", "b{"), ("a", "bz"), ("a", "b"), ("a", "b")],
