@@ -10,12 +10,12 @@ use crate::refusals::{auth_response, envelope_response, launch_response, route_r
 use http_wire::{Request, Response};
 use lti_consumer::outcome_call;
 use lti_machine::Action;
-use lti_outside::{Limits, NoMemory, Tap};
+use lti_outside::{Limits, NoMemory};
 use lti_provider::{ProviderFault, Route, launch_call, route_of};
 use oauth_request::{AuthFault, FORM_TYPE, Keys, Signed, check};
-use oauth_sign::BodyHash;
 use oauth_text::Scheme;
 use pox_outcomes::{EnvelopeFault, Outcome};
+use sha1::Sha1;
 use std::alloc::Global;
 
 /// What comes of a request before the machine is asked.
@@ -38,9 +38,7 @@ fn body_sum(request: &Request) -> [u8; 20]
     if request.media.get() == FORM_TYPE {
         return [0; 20];
     }
-    let mut hash = BodyHash::start();
-    hash.feed(request.body.get());
-    hash.finish()
+    Sha1::digest(request.body.get())
 }
 
 // What comes of a well signed request, which says this, by its message.
