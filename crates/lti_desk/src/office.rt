@@ -142,8 +142,8 @@ impl<D: Disk> Office<D> {
 
     /// Mounts a disk of two halves of `limits.half` bytes, as a crash may have left it, and goes on over the entries that
     /// it keeps. It writes nothing. A key may have `limits.window` nonces that aren't forgotten, and the office answers
-    /// `limits.calls` calls. Each entry costs a walk over the nonces before it, so the time of a mounting grows with the
-    /// square of their number.
+    /// `limits.calls` calls. Each entry costs look-ups in the window and in the book, and none walks over the entries
+    /// before it.
     ///
     /// `TooSmall` comes exactly where the disk is below two halves. `Damaged { at }` has the place of an open gate before a
     /// piece that passes its half's end, or else before the first piece whose payload is no entry.

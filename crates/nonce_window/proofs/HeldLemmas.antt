@@ -49,11 +49,16 @@ is_new (WindowFull live) = false
 
 -- a new stamp is inside, doesn't stand, and its key has fewer than the limit
 pub record IsNew (entries : List Entry) (key : List ℕ) (stamp : Stamp) (now limit : ℕ) : Type 0 where
+  pub inside : is_inside stamp.timestamp now ≡ true
   pub fresh : stands entries key stamp ≡ false
   pub below : length (live entries key now) < limit
 
 not_new : {A : Type 0} (v : Verdict) → v ≡ New → is_new v ≡ false → A
 not_new v new not_so = absurd (true≢false (sym (ap is_new new) ∙ not_so))
+
+not_not : (b : Bool) → not b ≡ false → b ≡ true
+not_not true h = refl
+not_not false h = sym h
 
 pub new_parts : (entries : List Entry) (key : List ℕ) (stamp : Stamp) (now limit : ℕ) → verdict entries key stamp now limit ≡ New → IsNew entries key stamp now limit
 new_parts entries key stamp now limit =
@@ -61,11 +66,11 @@ new_parts entries key stamp now limit =
     let full = if nat_le limit count then WindowFull count else New in
     cond_both (not (is_inside stamp.timestamp now)) Outside (if stands entries key stamp then Used else full) (λ v. v ≡ New → IsNew entries key stamp now limit)
     (λ _ new. not_new Outside new refl)
-    (λ _. cond_both (stands entries key stamp) Used full (λ v. v ≡ New → IsNew entries key stamp now limit)
+    (λ within. cond_both (stands entries key stamp) Used full (λ v. v ≡ New → IsNew entries key stamp now limit)
     (λ _ new. not_new Used new refl)
     (λ free. cond_both (nat_le limit count) (WindowFull count) New (λ v. v ≡ New → IsNew entries key stamp now limit)
     (λ _ new. not_new (WindowFull count) new refl)
-    (λ room _. record { fresh = free; below = grind (arith, nat_tests) })))
+    (λ room _. record { inside = not_not (is_inside stamp.timestamp now) within; fresh = free; below = grind (arith, nat_tests) })))
 
 -- where a window says that a stamp is new, what it knows says so
 pub new_known : (window : WindowValue) (key : List ℕ) (stamp : Stamp) (now : ℕ) → Says window key stamp now New → IsNew window.known key stamp now window.limit

@@ -32,7 +32,7 @@ module _ (keeps : Entry → Bool) (now : ℕ) (each : (entry : Entry) → is_liv
       let here = still-earlier now later (stamp_of e) h (second_so (is_of_key key e) (still later (stamp_of e)) lives) in
       true≢false (sym (each e (λ i. own i && here i)) ∙ out))
 
-  live-filter : (es : List Entry) (key : List ℕ) (later : ℕ) → now ≤ later → live (filter keeps es) key later ≡ live es key later
+  pub live-filter : (es : List Entry) (key : List ℕ) (later : ℕ) → now ≤ later → live (filter keeps es) key later ≡ live es key later
   live-filter [] key later h = refl
   live-filter (e ∷ es) key later h =
       cond_both (keeps e) (e ∷ filter keeps es) (filter keeps es) (λ x. live x key later ≡ live (e ∷ es) key later)

@@ -1,5 +1,15 @@
 pub mod Window
 pub mod Words
 pub mod Inside
-pub mod Pushed
+pub mod Fresh
+pub mod Last
+pub mod Changes
+pub mod Added
+pub mod Minutes
+pub mod InsideMinute
+pub mod Keys
+pub mod Nonces
+pub mod Placed
+pub mod Triples
+pub mod InsideNonces
 pub mod Laws

@@ -6,14 +6,23 @@
 //! this project's own rules. Promised: what is forgotten changes no verdict.
 #![tactic(auto)]
 
+mod keys;
 mod laws;
+mod minute;
+mod nonces;
+#[cfg(test)]
+mod plain;
 mod rules;
+mod seconds;
+mod table;
 #[cfg(test)]
 mod tests;
+mod triple;
 mod window;
 
 pub use laws::{
     forgetting_changes_no_verdict, forgotten_stays_outside, holds_alike, kept_is_bounded,
     knows_used, live_is_bounded, unsigned_is_held,
 };
+pub use triple::Triple;
 pub use window::NonceWindow;

@@ -1,5 +1,6 @@
 //! The verdicts of a window, and what it keeps.
 use super::*;
+use crate::plain::PlainWindow;
 use lti_machine::Verdict;
 use std::test::Fail;
 
@@ -128,5 +129,76 @@ fn a_loaded_nonce_counts_once_until_it_is_forgotten(rt: HostRuntime) -> Result<(
     }
     let verdict = ask(&mut window, 0, "12345", 600_060, "a")?;
     assert_eq!(rt; verdict, Verdict::New);
+    Ok(())
+}
+
+// Numbers that look as if they were drawn, the same at each run.
+#[derive(Drop)]
+struct Dice {
+    state: u64,
+}
+
+impl Dice {
+    fn below(&mut self, sides: u64) -> u64 {
+        self.state = self
+            .state
+            .wrapping_mul(6_364_136_223_846_793_005)
+            .wrapping_add(1_442_695_040_888_963_407);
+        (self.state >> 33) % sides.max(1)
+    }
+
+    fn text(&mut self, texts: &[&'static str]) -> &'static str {
+        let place = self.below(texts.len() as u64) as usize;
+        texts.get(place).copied().unwrap_or("n")
+    }
+}
+
+// Asks, loads or raises both windows alike, and says whether they answered alike.
+fn both(
+    dice: &mut Dice,
+    window: &mut NonceWindow,
+    plain: &mut PlainWindow,
+    moment: u64,
+    key: &str,
+) -> Result<bool, Fail> {
+    let timestamp = moment
+        .saturating_sub(6_000)
+        .saturating_add(dice.below(12_000));
+    let nonce = dice.text(&["a", "b", "ab", "ba", "aa", "longer than the others"]);
+    match dice.below(50) {
+        0 => {
+            window.raise(moment);
+            plain.raise(moment);
+        }
+        1 => {
+            load(window, moment, key, timestamp, nonce)?;
+            plain.add(moment, key, timestamp, nonce)?;
+        }
+        _ => {
+            let now = moment.max(plain.high());
+            let wanted = plain.judge(now, key, timestamp, nonce);
+            if let Verdict::New = wanted {
+                plain.add(now, key, timestamp, nonce)?;
+            }
+            if ask(window, moment, key, timestamp, nonce)? != wanted {
+                return Ok(false);
+            }
+        }
+    }
+    Ok(window.kept(key) == plain.kept(key) && window.high() == plain.high())
+}
+
+#[test]
+fn a_window_answers_as_a_list_of_all_entries(rt: HostRuntime) -> Result<(), Fail> {
+    let mut dice = Dice { state: 1 };
+    let mut window = NonceWindow::new(rt.alloc(), 300)?;
+    let mut plain = PlainWindow::new(rt.alloc(), 300);
+    let mut moment: u64 = 1_400_000_000;
+    for turn in 0..3_000 {
+        moment = moment.saturating_add(dice.below(20));
+        let key = dice.text(&["12345", "other", "third"]);
+        let alike = both(&mut dice, &mut window, &mut plain, moment, key)?;
+        assert!(rt; alike, "call {turn}");
+    }
     Ok(())
 }

@@ -1,0 +1,81 @@
+// Some seconds of a minute.
+ghost use Rattle.std.specs.Prelude.{◌≡◌, ◌<◌, [], ◌∷◌, ◌++◌, nat_eq, false, IfOk, OnOk, if◌then◌else◌};
+ghost use Rattle.std.specs.Int.{bit_at};
+ghost use Rattle.std.specs.List.{list_any};
+ghost use Rattle.nonce_window.specs.Added.{IsAdded};
+
+use lti_outside::NoMemory;
+use std::alloc::Global;
+use std::marker::Model;
+
+/// Some of the 60 seconds of a minute, in eight bytes.
+#[derive(Drop)]
+pub(crate) struct Seconds {
+    bits: u64,
+}
+
+impl Model for Seconds {
+    ghost use Rattle.std.specs.Prelude.{ℕ, List};
+    ghost use Rattle.nonce_window.specs.Minutes.{seconds_of};
+
+    ghost Value = { List ℕ };
+
+    ghost view = { λ s. seconds_of s.bits };
+}
+
+// Whether the bit of a second is set.
+fn is_set(bits: u64, second: u64) -> bool
+    requires { second < 60 }
+    ensures { result ≡ nat_eq (bit_at bits second) 1 }
+{
+    bits >> second & 1 == 1
+}
+
+// Appends a second, where it is asked to.
+fn push_where(wanted: bool, seconds: &mut Vec<u64>, second: u64) -> Result<(), NoMemory>
+    ensures { OnOk result (seconds.new.items ≡ seconds.old.items ++ (if wanted then second ∷ [] else [])) }
+{
+    if !wanted {
+        return Ok(());
+    }
+    seconds.push(second)?;
+    Ok(())
+}
+
+impl Seconds {
+    /// No second.
+    pub(crate) fn none() -> Seconds
+        ensures { result ≡ [] }
+    {
+        Seconds { bits: 0 }
+    }
+
+    /// Whether the second is among them.
+    pub(crate) fn has(&self, second: u64) -> bool
+        requires { second < 60 }
+        ensures { result ≡ list_any (nat_eq second) self.now }
+    {
+        is_set(self.bits, second)
+    }
+
+    /// They, in order.
+    pub(crate) fn list(&self, alloc: Global) -> Result<Vec<u64>, NoMemory>
+        ensures { IfOk result (λ seconds. seconds.items ≡ self.now) }
+    {
+        let bits = self.bits;
+        let mut seconds = Vec::new(alloc);
+        for second in 0..60 {
+            push_where(is_set(bits, second), &mut seconds, second)?;
+        }
+        Ok(seconds)
+    }
+
+    /// Adds a second that isn't among them.
+    pub(crate) fn add(&mut self, second: u64)
+        requires within { second < 60 }
+        requires new { list_any (nat_eq second) self.old ≡ false }
+        ensures { IsAdded self.old second self.new }
+    {
+        self.bits |= 1 << second;
+    }
+}
