@@ -1,5 +1,5 @@
 -- The entries that a mounting has read so far.
-use Rattle.std.proofs.Common.{◌≡◌, ◌<◌, ◌-◌, ◌^◌, ℕ, suc, List, [], ◌∷◌, ◌++◌, length, drop, All, refl, sym, ap, ◌∙◌, arith}
+use Rattle.std.proofs.Common.{◌≡◌, ◌<◌, ◌-◌, ◌^◌, ℕ, suc, List, [], ◌∷◌, ◌++◌, length, drop, All, refl, sym, ap, ◌∙◌, subst, arith}
 use Rattle.std.proofs.lemmas.List.Elements.{All-nil, All-cons, All-head, All-tail}
 use Rattle.lti_machine.specs.EntryBytes.{entry_text, IsEntry, IsInRange}
 use Rattle.lti_machine.specs.declared.entry.Entry.{Entry}
@@ -9,9 +9,10 @@ use Rattle.gate_journal.specs.Pieces.{payloads_of}
 use Rattle.gate_journal.specs.declared.piece.Piece.{Piece}
 use Rattle.nonce_window.specs.Words.{HasRoom}
 use Rattle.lti_desk.specs.Ledger.{Holds}
-use Rattle.lti_desk.specs.Mounting.{AreEntries}
-use Rattle.lti_desk.specs.Office.{payloads}
+use Rattle.lti_desk.specs.Reading.{AreEntries, IsOver}
+use Rattle.lti_desk.specs.Keeper.{payloads}
 use Rattle.lti_desk.specs.declared.ledger.Ledger.{Ledger}
+use Rattle.lti_desk.specs.declared.origin.Origin.{Origin}
 
 abbrev head_or : List (List ℕ) → List ℕ → List ℕ
 head_or [] other = other
@@ -68,3 +69,12 @@ one_list (d ∷ ds) (e ∷ es) all all' same =
     let entry = entry_once (entry_text d) d e (record { bytes_are = refl; in_range = All-head IsInRange d ds all }) (record { bytes_are = first; in_range = All-head IsInRange e es all' }) in
     let rest = one_list ds es (All-tail IsInRange d ds all) (All-tail IsInRange e es all') (ap (λ (l : List (List ℕ)). drop 1 l) same) in
     λ i. entry i ∷ rest i
+
+-- pieces have the entries of one list
+pub one_reading : (pieces : List Piece) (a b : List Entry) → AreEntries pieces a → AreEntries pieces b → a ≡ b
+one_reading pieces a b are also =
+    one_list a b (entries-in_range pieces a are) (entries-in_range pieces b also) (sym (entries-payloads pieces a are) ∙ entries-payloads pieces b also)
+
+-- what holds over the entries that were read holds of each list of them
+pub of_each : (origin : Origin) (Holds : List Entry → Type 0) → IsOver origin Holds → (began : List Entry) → AreEntries origin.pieces.value.items began → Holds began
+of_each origin Holds over began are = subst Holds (one_reading origin.pieces.value.items over.began began over.read are) over.holds

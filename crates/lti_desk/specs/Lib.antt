@@ -1,5 +1,13 @@
 pub mod Ledger
 pub mod Keeping
-pub mod Office
+pub mod Legal
+pub mod Keeper
 pub mod Responding
+pub mod Reading
 pub mod Mounting
+pub mod Serving
+pub mod Crash
+pub mod Office
+pub mod Lawful
+pub mod Held
+pub mod Answering

@@ -1,9 +1,9 @@
 // Keeping one more payload.
-ghost use Rattle.std.specs.Prelude.{◌≡◌, ◌≤◌, ℕ, List, [], ◌∷◌, ◌++◌, length, Option, None, OnOk, OnErr};
+ghost use Rattle.std.specs.Prelude.{◌≡◌, ◌≤◌, ℕ, List, [], ◌∷◌, ◌++◌, length, Option, None, false, OnOk, OnErr};
 ghost use Rattle.lti_outside.specs.Faults.{Rose};
 ghost use Rattle.lti_outside.specs.DiskMoments.{LeavesOnly};
-ghost use Rattle.gate_journal.specs.Half.{free_of, payload_of, IsFrame};
-ghost use Rattle.gate_journal.specs.Journal.{disk_of, place_of};
+ghost use Rattle.gate_journal.specs.Half.{free_of, next_place, payload_of, IsFrame};
+ghost use Rattle.gate_journal.specs.Journal.{disk_of, place_of, doubts};
 ghost use Rattle.lti_desk.specs.Keeping.{IsKept, IsOneOf, IsInDoubtAfter};
 
 use gate_journal::{CommitFault, Journal};
@@ -25,6 +25,9 @@ pub fn keep<D: Disk>(journal: &mut Journal<D>, framed: &Bytes) -> Result<(), Dis
     ensures doubt { OnErr result ((payloads : List (List ℕ)) (doubt : Option (List (List ℕ))) → IsKept journal.old payloads doubt
         → (after : Option (List (List ℕ))) × IsKept journal.new payloads after × IsInDoubtAfter doubt (payloads ++ payload_of framed.now.list ∷ []) after) }
 
+    ensures place { OnOk result (place_of journal.new ≡ next_place (place_of journal.old) (length (payload_of framed.now.list))) }
+    ensures place_err { OnErr result (place_of journal.new ≡ place_of journal.old) }
+    ensures settled { OnOk result (doubts journal.new ≡ false) }
     ensures half { (place_of journal.new).half ≡ (place_of journal.old).half }
     ensures failed { OnErr result (Rose (D.faults (disk_of journal.old)) (D.faults (disk_of journal.new))) }
     ensures faults { OnOk result (D.faults (disk_of journal.new) ≡ D.faults (disk_of journal.old)) }

@@ -1,8 +1,8 @@
-//! Offices over disks in memory: what the next mounting finds, a full journal, a fault at each call of a commit, and what
-//! a crash leaves.
+//! Offices over disks in memory: what the next mounting finds, a full journal, a fault at each call of a commit, and
+//! what a crash leaves.
 use super::*;
 use gate_journal::{Journal, MountFault, frame};
-use lti_machine::{Action, Call, Reply};
+use lti_machine::{Action, Call, Reply, Standing};
 use lti_outside::{Bytes, Limits, MemoryDisk, Text};
 use score_decimal::Score;
 use std::alloc::Global;
@@ -48,30 +48,38 @@ fn signed(alloc: Global, nonce: &str, action: Action) -> Result<Call, Fail> {
     })
 }
 
-// The call that issues the id 3124567.
-fn issue(alloc: Global) -> Result<Call, Fail> {
+// The call that issues an id.
+fn issue_of(alloc: Global, id: &str) -> Result<Call, Fail> {
     Ok(Call {
         timestamp: 0,
         ..signed(
             alloc,
             "",
             Action::Issue {
-                id: Text::new(alloc, "3124567")?,
+                id: Text::new(alloc, id)?,
             },
         )?
     })
 }
 
-// The call that gives the id the score 0.92.
-fn grade(alloc: Global, nonce: &str) -> Result<Call, Fail> {
+fn issue(alloc: Global) -> Result<Call, Fail> {
+    issue_of(alloc, "3124567")
+}
+
+// The call that gives the id 3124567 a score.
+fn score(alloc: Global, nonce: &str, score: &str) -> Result<Call, Fail> {
     signed(
         alloc,
         nonce,
         Action::Replace {
             id: Text::new(alloc, "3124567")?,
-            score: Score::read("0.92"),
+            score: Score::read(score),
         },
     )
+}
+
+fn grade(alloc: Global, nonce: &str) -> Result<Call, Fail> {
+    score(alloc, nonce, "0.92")
 }
 
 fn launch(alloc: Global, nonce: &str) -> Result<Call, Fail> {
@@ -147,30 +155,63 @@ fn what_was_accepted_is_found_by_the_next_mounting(rt: HostRuntime) -> Result<()
     Ok(())
 }
 
-// Whether what has no room is refused, and what has some is accepted.
+// Whether five ids have room, and the sixth has not.
 fn is_tight(rt: &impl Abort, alloc: Global, office: &mut Office<MemoryDisk>) -> Result<bool, Fail> {
-    let is_refused = replies(
-        rt,
-        office,
-        launch(alloc, "n1")?,
-        Reply::JournalFull { free: 49 },
-    );
-    let is_issued = replies(rt, office, issue(alloc)?, Reply::Issued);
-    let is_full = replies(
-        rt,
-        office,
-        grade(alloc, "n1")?,
-        Reply::JournalFull { free: 2 },
-    );
-    Ok(is_refused && is_issued && is_full && office.accepted() == 1)
+    let mut are_issued = true;
+    for id in ["3124567", "3124568", "3124569", "3124570", "3124571"] {
+        are_issued = are_issued && replies(rt, office, issue_of(alloc, id)?, Reply::Issued);
+    }
+    let sixth = issue_of(alloc, "3124572")?;
+    let is_full = replies(rt, office, sixth, Reply::JournalFull { free: 6 });
+    Ok(are_issued && is_full && office.calls() == 6 && office.accepted() == 5)
 }
 
 #[test]
 fn an_entry_that_finds_no_room_is_refused(rt: HostRuntime) -> Result<(), Fail> {
     let alloc = rt.alloc();
-    let mut office = mounted(&rt, alloc, zeros(alloc, 128, &[])?, &limits(64, 10))?;
+    let mut office = mounted(&rt, alloc, zeros(alloc, 512, &[])?, &limits(256, 10))?;
     let is_tight = is_tight(&rt, alloc, &mut office)?;
     assert!(rt; is_tight);
+    Ok(())
+}
+
+// Whether a grade is accepted, and a launch 5,401 seconds later.
+fn ages(rt: &impl Abort, alloc: Global, office: &mut Office<MemoryDisk>) -> Result<bool, Fail> {
+    let late = Call {
+        moment: 1_400_005_401,
+        timestamp: 1_400_005_401,
+        ..launch(alloc, "n2")?
+    };
+    let is_issued = replies(rt, office, issue(alloc)?, Reply::Issued);
+    let is_graded = replies(rt, office, grade(alloc, "n1")?, Reply::Graded);
+    let is_launched = replies(rt, office, late, Reply::Launched);
+    Ok(is_issued && is_graded && is_launched)
+}
+
+// A disk on which they are.
+fn aged(rt: &impl Abort, alloc: Global) -> Result<MemoryDisk, Fail> {
+    let mut office = mounted(rt, alloc, zeros(alloc, 2_000, &[])?, &limits(1_000, 10))?;
+    let ages = ages(rt, alloc, &mut office)?;
+    assert!(rt; ages);
+    Ok(office.close())
+}
+
+// Whether the grade is outside at the moment of the launch.
+fn is_outside(
+    rt: &impl Abort,
+    alloc: Global,
+    office: &mut Office<MemoryDisk>,
+) -> Result<bool, Fail> {
+    let outside = Reply::Outside { now: 1_400_005_401 };
+    Ok(replies(rt, office, grade(alloc, "n1")?, outside))
+}
+
+#[test]
+fn a_clock_that_goes_back_brings_no_nonce_back(rt: HostRuntime) -> Result<(), Fail> {
+    let alloc = rt.alloc();
+    let mut office = mounted(&rt, alloc, aged(&rt, alloc)?, &limits(1_000, 10))?;
+    let is_outside = is_outside(&rt, alloc, &mut office)?;
+    assert!(rt; is_outside);
     Ok(())
 }
 
@@ -236,56 +277,86 @@ fn a_fault_while_the_gate_is_opened_is_in_doubt_until_it_is_repaired(
     Ok(())
 }
 
-// The disk of an office over which the call with this number, counted from the mounting's last, failed.
-fn failed(rt: &impl Abort, alloc: Global, call: u64) -> Result<MemoryDisk, Fail> {
-    let failing = mounting_calls(rt, alloc)?.saturating_add(call);
-    let disk = zeros(alloc, 2_000, &[failing])?;
-    let mut office = mounted(rt, alloc, disk, &limits(1_000, 10))?;
-    let has_failed = replies(
-        rt,
-        &mut office,
-        issue(alloc)?,
-        Reply::DiskFault { faults: 1 },
-    );
-    assert!(rt; has_failed);
+// A disk as it was synced with a grade of 0.92, whose calls from this one on fail.
+fn graded(rt: &impl Abort, alloc: Global, stop: u64) -> Result<MemoryDisk, Fail> {
+    let mut disk = filled(rt, alloc)?.image(0)?;
+    disk.stop_at(stop);
+    Ok(disk)
+}
+
+// How many calls a mounting of such a disk makes.
+fn graded_calls(rt: &impl Abort, alloc: Global) -> Result<u64, Fail> {
+    let office = mounted(rt, alloc, graded(rt, alloc, u64::MAX)?, &limits(1_000, 10))?;
+    Ok(office.close().calls().len() as u64)
+}
+
+// Whether the call that makes the grade 0.5 gets this reply.
+fn regrades(
+    rt: &impl Abort,
+    alloc: Global,
+    office: &mut Office<MemoryDisk>,
+    want: Reply,
+) -> Result<bool, Fail> {
+    Ok(replies(rt, office, score(alloc, "n3", "0.5")?, want))
+}
+
+// The disk after that call got this reply, where the disk's calls from this one on fail, counted from the mounting's
+// last.
+fn stopped(rt: &impl Abort, alloc: Global, call: u64, want: Reply) -> Result<MemoryDisk, Fail> {
+    let stop = graded_calls(rt, alloc)?.saturating_add(call);
+    let mut office = mounted(rt, alloc, graded(rt, alloc, stop)?, &limits(1_000, 10))?;
+    let is_as_told = regrades(rt, alloc, &mut office, want)?;
+    assert!(rt; is_as_told);
     Ok(office.close())
 }
 
-// How many ids a mounting of an image of the disk finds.
-fn rows_of(rt: &impl Abort, alloc: Global, disk: &MemoryDisk, pick: u64) -> Result<usize, Fail> {
+// The grade that a mounting of an image of the disk finds.
+fn grade_of(
+    rt: &impl Abort,
+    alloc: Global,
+    disk: &MemoryDisk,
+    pick: u64,
+) -> Result<Standing, Fail> {
     let office = mounted(rt, alloc, disk.image(pick)?, &limits(1_000, 10))?;
-    Ok(office.book().rows())
+    Ok(office.book().grade("12345", "3124567"))
 }
 
-// How many ids the mountings of some images of the disk find, the fewest and the most.
-fn found(rt: &impl Abort, alloc: Global, disk: &MemoryDisk) -> Result<(usize, usize), Fail> {
-    let mut fewest = usize::MAX;
-    let mut most = 0;
-    for pick in 0..16 {
-        let rows = rows_of(rt, alloc, disk, pick)?;
-        fewest = fewest.min(rows);
-        most = most.max(rows);
+// How many of 64 images have the grade of before, and how many have the one of after.
+fn grades(rt: &impl Abort, alloc: Global, disk: &MemoryDisk) -> Result<(u32, u32), Fail> {
+    let mut before: u32 = 0;
+    let mut after: u32 = 0;
+    for pick in 0..64 {
+        let standing = grade_of(rt, alloc, disk, pick)?;
+        before = before.saturating_add(u32::from(standing == scored("0.92")));
+        after = after.saturating_add(u32::from(standing == scored("0.5")));
     }
-    Ok((fewest, most))
+    Ok((before, after))
+}
+
+fn scored(text: &str) -> Standing {
+    match Score::read(text) {
+        Some(score) => Standing::Scored(score),
+        None => Standing::Empty,
+    }
 }
 
 #[test]
-fn a_crash_leaves_what_was_answered(rt: HostRuntime) -> Result<(), Fail> {
+fn a_commit_that_stops_leaves_the_grade_of_before_or_after(rt: HostRuntime) -> Result<(), Fail> {
     let alloc = rt.alloc();
-    let disk = filled(&rt, alloc)?;
-    assert_eq!(rt; found(&rt, alloc, &disk)?, (1, 1));
-    Ok(())
-}
-
-#[test]
-fn a_crash_after_a_fault_leaves_the_call_only_where_it_is_in_doubt(
-    rt: HostRuntime,
-) -> Result<(), Fail> {
-    let alloc = rt.alloc();
-    let disk = failed(&rt, alloc, 0)?;
-    assert_eq!(rt; found(&rt, alloc, &disk)?, (0, 0));
-    let disk = failed(&rt, alloc, 3)?;
-    assert_eq!(rt; found(&rt, alloc, &disk)?, (0, 1));
+    let fault = Reply::DiskFault { faults: 1 };
+    let rows = [
+        (0, fault, true, false),
+        (1, fault, true, false),
+        (2, fault, true, true),
+        (3, fault, true, true),
+        (4, Reply::Graded, false, true),
+    ];
+    for (call, reply, has_before, has_after) in rows {
+        let disk = stopped(&rt, alloc, call, reply)?;
+        let (before, after) = grades(&rt, alloc, &disk)?;
+        assert!(rt; before.saturating_add(after) == 64);
+        assert!(rt; (before > 0) == has_before && (after > 0) == has_after);
+    }
     Ok(())
 }
 
@@ -332,10 +403,19 @@ fn a_payload_that_is_no_entry_is_damaged(rt: HostRuntime) -> Result<(), Fail> {
 #[test]
 fn a_disk_below_two_halves_is_too_small(rt: HostRuntime) -> Result<(), Fail> {
     let alloc = rt.alloc();
-    let disk = zeros(alloc, 1_999, &[])?;
-    assert_eq!(rt;
-        fault_of(&rt, alloc, disk),
-        Some(MountFault::TooSmall { size: 1_999 })
-    );
+    for size in [0, 1_999] {
+        let disk = zeros(alloc, size, &[])?;
+        let too_small = MountFault::TooSmall { size: size as u64 };
+        assert_eq!(rt; fault_of(&rt, alloc, disk), Some(too_small));
+    }
+    Ok(())
+}
+
+#[test]
+fn a_disk_of_zero_bytes_is_empty(rt: HostRuntime) -> Result<(), Fail> {
+    let alloc = rt.alloc();
+    let office = mounted(&rt, alloc, zeros(alloc, 2_000, &[])?, &limits(1_000, 10))?;
+    assert!(rt; office.calls() == 0 && office.accepted() == 0 && !office.doubtful());
+    assert_eq!(rt; office.book().rows(), 0);
     Ok(())
 }

@@ -1,3 +1,4 @@
+pub mod LadderLemmas
 mod MadeLemmas
 pub mod ReportLemmas
 mod NotedLemmas

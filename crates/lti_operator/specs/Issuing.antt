@@ -1,12 +1,13 @@
 -- What a run of `issue` did (this project's own).
 use Rattle.std.specs.Prelude.{◌≡◌, ◌⊎◌, ℕ, List, [], Option}
 use Rattle.lti_outside.specs.Moment as moments
-use Rattle.lti_machine.specs.Rules.{decide, after, Answers}
 use Rattle.lti_machine.specs.declared.call.Call.{Call}
 use Rattle.lti_machine.specs.declared.call.Action.TheVariants as action
-use Rattle.lti_machine.specs.declared.entry.Entry.{Entry}
 use Rattle.lti_machine.specs.declared.reply.Reply.{Reply}
 use Rattle.lti_machine.specs.declared.reply.Reply.TheVariants as reply
+use Rattle.lti_outside.specs.declared.disk.Disk.{Ghosts}
+use Rattle.lti_desk.specs.Answering.{Answers}
+use Rattle.lti_desk.specs.Office.{OfficeValue}
 use Rattle.lti_words.specs.Command.{IssueCommand}
 use Rattle.lti_words.specs.declared.status.Status.{Status}
 use Rattle.lti_words.specs.declared.status.Status.TheVariants as ends
@@ -15,21 +16,22 @@ use Rattle.lti_words.specs.declared.status.Status.TheVariants as ends
 abbrev pub issue_call : IssueCommand → ℕ → Call
 issue_call issue moment = record { caller = 0; moment = moment; key = issue.key; timestamp = 0; nonce = []; action = action.Issue issue.id }
 
--- how the command ends, by the machine's reply
+-- how the command ends, by the office's reply
 abbrev pub issued_by : Reply → Status
 issued_by reply.Issued = ends.Done
 issued_by reply.AlreadyIssued = ends.AlreadyIssued
+issued_by (reply.JournalFull free) = ends.JournalFull
+issued_by (reply.DiskFault faults) = ends.DiskFault
 issued_by _ = ends.NoMemory
 
--- the machine was asked to issue the id, at a moment of the clock, and this came of it
-pub record Issues (issue : IssueCommand) (clock : Option ℕ) (window : ℕ) (from to : List Entry) (status : Status) : Type 0 where
+-- the office was asked to issue the id, at a moment of the clock, and this came of it
+pub record Issues {D : Type 0} (g : Ghosts D) (issue : IssueCommand) (clock : Option ℕ) (from to : OfficeValue D) (status : Status) : Type 0 where
   pub moment : ℕ
   pub moment_is : moments.IsTold clock moment
   pub given : Reply
-  pub decided : Answers (decide from (issue_call issue moment) window) given
-  pub kept : to ≡ after from (issue_call issue moment) given
+  pub answered : Answers g from (issue_call issue moment) given to
   pub status_is : status ≡ issued_by given
 
--- Memory ran out, and nothing was accepted; or the machine was asked.
-abbrev pub IsIssued : IssueCommand → Option ℕ → ℕ → List Entry → List Entry → Status → Type 0
-IsIssued issue clock window from to status = ((to ≡ from) × (status ≡ ends.NoMemory)) ⊎ Issues issue clock window from to status
+-- Memory ran out, and the office was asked nothing; or it was asked.
+abbrev pub IsIssued : {D : Type 0} → Ghosts D → IssueCommand → Option ℕ → OfficeValue D → OfficeValue D → Status → Type 0
+IsIssued g issue clock from to status = ((to ≡ from) × (status ≡ ends.NoMemory)) ⊎ Issues g issue clock from to status

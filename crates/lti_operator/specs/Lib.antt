@@ -1,3 +1,5 @@
+pub mod Ladder
+pub mod Opening
 pub mod Made
 pub mod Issuing
 pub mod Launching

@@ -5,8 +5,9 @@ ghost use Rattle.lti_words.specs.CommandView.{issue_of};
 ghost use Rattle.lti_operator.specs.Issuing as spec;
 ghost use Rattle.lti_operator.specs.Issuing.{IsIssued, issued_by};
 
-use lti_machine::{Action, Call, Reply, Solo};
-use lti_outside::{Clock, Limits, NoMemory, Text};
+use lti_desk::Office;
+use lti_machine::{Action, Call, Reply};
+use lti_outside::{Clock, Disk, NoMemory, Text};
 use lti_words::{Issue, Status};
 use std::alloc::Global;
 
@@ -26,31 +27,32 @@ fn issue_call(alloc: Global, issue: &Issue<'_>, moment: u64) -> Result<Call, NoM
     })
 }
 
-// How the command ends, by the machine's reply.
+// How the command ends, by the office's reply.
 fn issued(reply: &Reply) -> Status
     ensures { result ≡ issued_by reply.now }
 {
     match reply {
         Reply::Issued => Status::Done,
         Reply::AlreadyIssued => Status::AlreadyIssued,
+        Reply::JournalFull { .. } => Status::JournalFull,
+        Reply::DiskFault { .. } => Status::DiskFault,
         _ => Status::NoMemory,
     }
 }
 
-/// Has the machine issue an id at a moment of the clock: it takes grades of the id from now on (`sourcedId`, LTI 1.1.1, section
+/// Has the office issue an id at a moment of the clock: it takes grades of the id from now on (`sourcedId`, LTI 1.1.1, section
 /// 6).
-pub fn issue_id<C: Clock>(
+pub fn issue_id<D: Disk, C: Clock>(
     alloc: Global,
     issue: &Issue<'_>,
-    solo: &mut Solo,
+    office: &mut Office<D>,
     clock: &C,
-    limits: &Limits,
 ) -> Status
     requires { IsKey issue.now.key.now }
-    ensures { IsIssued (issue_of issue.now) (C.tells clock.now) limits.now.window solo.old solo.new result }
+    ensures { IsIssued ⟦<D as Disk>⟧ (issue_of issue.now) (C.tells clock.now) office.old office.new result }
 {
     let Ok(call) = issue_call(alloc, issue, clock.now()) else {
         return Status::NoMemory;
     };
-    issued(&solo.answer(call, limits))
+    issued(&office.answer(call))
 }

@@ -1,4 +1,5 @@
 pub mod TalkLemmas
+pub mod ConnectionLemmas
 pub mod EndLemmas
 pub mod RenderLemmas
 pub mod CutLemmas

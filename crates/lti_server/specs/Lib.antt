@@ -5,6 +5,7 @@ pub mod BeforeView
 pub mod Refusal
 pub mod Talk
 pub mod Transcript
+pub mod Plain
 pub mod Served
 pub mod Doing
 pub mod Laws

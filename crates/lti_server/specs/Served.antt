@@ -1,11 +1,14 @@
 -- What a run of `answer` did as its own (this project's own).
-use Rattle.std.specs.Prelude.{◌≡◌, ℕ, List, [], Option, None, Some}
+use Rattle.std.specs.Prelude.{◌≡◌, ℕ, List, Option, None, Some}
+use Rattle.lti_outside.specs.declared.disk.Disk.{Ghosts}
 use Rattle.lti_outside.specs.declared.limits.Limits.{Limits}
-use Rattle.lti_machine.specs.declared.entry.Entry.{Entry}
+use Rattle.lti_desk.specs.Answering.{Answers}
+use Rattle.lti_desk.specs.Office.{OfficeValue}
+use Rattle.lti_desk.specs.Serving.{Serves}
 use Rattle.lti_words.specs.declared.status.Status.{Status}
 use Rattle.lti_words.specs.declared.status.Status.TheVariants as ends
-use Rattle.lti_settings.specs.Ladder.{Passage}
 use Rattle.lti_settings.specs.declared.settings.Settings.{Settings}
+use Rattle.lti_operator.specs.Ladder.{Passage}
 use Rattle.lti_server.specs.Exchange.{Service}
 use Rattle.lti_server.specs.Transcript.{IsServed}
 use Rattle.lti_server.specs.declared.session_end.SessionEnd.{SessionEnd}
@@ -25,13 +28,16 @@ end_status (end.Refused fault) = ends.Refused
 abbrev pub service_of : Limits → Option ℕ → Settings → Service
 service_of limits clock settings = record { limits = limits; caller = 0; keys = settings.keys; scheme = settings.scheme; clock = clock }
 
--- the link was served as one connection by the settings, over a machine that had accepted no call
-pub record ServesLink (limits : Limits) (clock : Option ℕ) (settings : Settings) (p : Passage) (status : Status) : Type 0 where
-  pub accepted : List Entry
+-- The link was served as one connection by the settings, over the office that was mounted: what it was asked, one call behind
+-- another, is its history since.
+pub record ServesLink {D : Type 0} (g : Ghosts D) (limits : Limits) (clock : Option ℕ) (settings : Settings) (p : Passage D) (office : OfficeValue D) (status : Status) : Type 0 where
+  pub to : OfficeValue D
   pub end : SessionEnd
-  pub served : IsServed (service_of limits clock settings) p.before.link p.after.link [] accepted end
+  pub served : IsServed (λ old call given new. Answers g old call given new) (service_of limits clock settings) p.before.link p.after.link office to end
+  pub history : Serves g office served.told to
+  pub disk : p.after.disk ≡ to.disk
   pub status_is : status ≡ end_status end
 
-abbrev pub OwnAnswer : Limits → Option ℕ → Option Settings → Passage → Status → Type 0
-OwnAnswer limits clock None p status = ⊥
-OwnAnswer limits clock (Some settings) p status = ServesLink limits clock settings p status
+abbrev pub OwnAnswer : {D : Type 0} → Ghosts D → Limits → Option ℕ → Passage D → Option Settings → OfficeValue D → Status → Type 0
+OwnAnswer g limits clock p None office status = ⊥
+OwnAnswer g limits clock p (Some settings) office status = ServesLink g limits clock settings p office status

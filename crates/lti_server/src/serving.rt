@@ -2,14 +2,14 @@
 ghost use Rattle.lti_outside.specs.Limits.{IsSound};
 ghost use Rattle.lti_words.specs.Command.CommandValue.{answer as answer_command};
 ghost use Rattle.std.specs.Prelude.{ℕ, List, Option};
-ghost use Rattle.lti_settings.specs.Ladder.{Ladder};
+ghost use Rattle.lti_operator.specs.Ladder.{Ladder};
 ghost use Rattle.lti_server.specs.Served.{OwnAnswer};
 
 use crate::session_end::SessionEnd;
 use crate::sessions::session;
-use lti_machine::Solo;
-use lti_outside::{Clock, Limits, Link, Source};
-use lti_settings::read_settings;
+use lti_desk::a_run_serves;
+use lti_operator::open;
+use lti_outside::{Clock, Disk, Limits, Link, Source};
 use lti_words::Status;
 use std::alloc::Global;
 
@@ -32,25 +32,26 @@ impl SessionEnd {
     }
 }
 
-/// Does what `answer` is asked: serves the link as one connection, by the settings that the source gives, over a machine that
-/// has accepted no call.
-pub fn answer<S: Source, I: Link, C: Clock>(
+/// Does what `answer` is asked: serves the link as one connection, by the settings that the source gives, over the journal of
+/// the disk, which it hands back.
+pub fn answer<S: Source, I: Link, D: Disk, C: Clock>(
     alloc: Global,
     settings: &mut S,
     ends: &mut I,
+    disk: D,
     clock: &C,
     limits: &Limits,
-) -> Status
+) -> (Status, D)
     requires { IsSound limits.now }
-    ensures { (random : Option (List ℕ)) → Ladder answer_command
-        (record { before = record { source = S.traffic settings.old; link = I.traffic ends.old; random = random }; after = record { source = S.traffic settings.new; link = I.traffic ends.new; random = random } })
-        (λ p read secret. OwnAnswer limits.now (C.tells clock.now) read p) result }
+    ensures { (random : Option (List ℕ)) → Ladder ⟦<D as Disk>⟧ limits.now answer_command
+        (record { before = record { source = S.traffic settings.old; link = I.traffic ends.old; random = random; disk = disk }; after = record { source = S.traffic settings.new; link = I.traffic ends.new; random = random; disk = result.1 } })
+        (λ p read secret office status. OwnAnswer ⟦<D as Disk>⟧ limits.now (C.tells clock.now) p read office status) result.0 }
 {
-    match read_settings(alloc, settings) {
-        Err(none) => none.status(),
-        Ok(read) => {
-            let mut solo = Solo::new(alloc);
-            session(alloc, ends, &mut solo, &read, clock, limits).status()
-        }
-    }
+    let (read, mut office) = match open(alloc, settings, disk, limits) {
+        Err(unopened) => return unopened,
+        Ok(opened) => opened,
+    };
+    a_run_serves::<D>();
+    let status = session(alloc, ends, &mut office, &read, clock, limits).status();
+    (status, office.close())
 }

@@ -4,8 +4,8 @@ ghost use Rattle.lti_server.specs.Transcript.{IsServed};
 
 use crate::asking::Session;
 use crate::asks::Ask;
+use crate::machines::Machine;
 use crate::session_end::SessionEnd;
-use lti_machine::Solo;
 use lti_outside::{Clock, Limits, Link};
 use lti_settings::Settings;
 use std::alloc::Global;
@@ -14,25 +14,25 @@ use std::alloc::Global;
 /// caller 0.
 ///
 /// Each message that the bytes read spell is answered in order: as its refusal says, or as the machine's reply to its call
-/// is rendered. The machine's list gains what the rules decide over it, call by call.
-pub fn session<L: Link, C: Clock>(
+/// is rendered. The machine makes one step for each call.
+pub fn session<L: Link, M: Machine, C: Clock>(
     alloc: Global,
     link: &mut L,
-    solo: &mut Solo,
+    machine: &mut M,
     settings: &Settings,
     clock: &C,
     limits: &Limits,
 ) -> SessionEnd
     requires { IsSound limits.now }
-    ensures { IsServed (record { limits = limits.now; caller = 0; keys = settings.now.keys; scheme = settings.now.scheme; clock = C.tells clock.now })
-        (L.traffic link.old) (L.traffic link.new) solo.old solo.new result }
+    ensures { IsServed M.step (record { limits = limits.now; caller = 0; keys = settings.now.keys; scheme = settings.now.scheme; clock = C.tells clock.now })
+        (L.traffic link.old) (L.traffic link.new) machine.old machine.new result }
 {
     let mut session = Session::new(0);
     'calls: loop {
         match session.ask(alloc, link, settings, clock, limits) {
             Ask::End(end) => return end,
             Ask::Call(call) => {
-                let reply = solo.answer(call, limits);
+                let reply = machine.answer(call);
                 match session.tell(link, reply) {
                     Ok(()) => {}
                     Err(_) => return SessionEnd::WriteFault,

@@ -1,4 +1,3 @@
 pub mod Settings
 pub mod SettingsRead
 pub mod SettingsView
-pub mod Ladder

@@ -160,6 +160,15 @@ uses_settings (launch command) = true
 uses_settings (passback command) = true
 uses_settings (grades command) = false
 
+-- the command is done over the journal of what was accepted
+abbrev pub uses_journal : CommandValue → Bool
+uses_journal (check command) = false
+uses_journal answer = true
+uses_journal (issue command) = true
+uses_journal (launch command) = true
+uses_journal (passback command) = true
+uses_journal (grades command) = true
+
 -- the command signs something, and so needs a nonce
 abbrev pub signs : CommandValue → Bool
 signs (launch command) = true
@@ -176,6 +185,10 @@ key_of _ = None
 -- the words ask for no command that needs settings
 abbrev pub UsesNoSettings : List (List ℕ) → Type 0
 UsesNoSettings words = (command : CommandValue) → IsCommand words command → uses_settings command ≡ false
+
+-- the words ask for no command that needs the journal
+abbrev pub UsesNoJournal : List (List ℕ) → Type 0
+UsesNoJournal words = (command : CommandValue) → IsCommand words command → uses_journal command ≡ false
 
 -- the words ask for nothing that this end signs
 abbrev pub SignsNothing : List (List ℕ) → Type 0

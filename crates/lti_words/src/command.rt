@@ -84,6 +84,19 @@ pub enum Command<'a> {
     Grades(Grades),
 }
 
+impl Command<'_> {
+    ghost use Rattle.std.specs.Prelude.{◌≡◌};
+    ghost use Rattle.lti_words.specs.Command.{uses_journal};
+    ghost use Rattle.lti_words.specs.CommandView.{value_of};
+
+    /// Whether it is done over the journal of what was accepted; all but `check` are.
+    pub fn uses_journal(&self) -> bool
+        ensures { result ≡ uses_journal (value_of self.now) }
+    {
+        !matches!(self, Command::Check(_))
+    }
+}
+
 /// The command that the words ask for, or none where they are no command: another name, another number of words, or
 /// a word out of its range. Words behind the name stand in the order `check URL KEY SECRET MOMENT`, `issue KEY ID`,
 /// `launch URL KEY LINK USER ID SERVICE`, `passback ADDRESS KEY LINK USER SCORE` and `grades SCALE MAX`; `answer`

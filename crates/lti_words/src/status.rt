@@ -14,12 +14,20 @@ pub enum Status {
     ReadFault,
     /// A write of the link failed: 5.
     WriteFault,
+    /// A call of the disk failed, while the journal was mounted or in `issue`; or the journal can't be opened: 6.
+    DiskFault,
+    /// A piece of the journal has no reading: 7.
+    DamagedJournal,
     /// Memory ran out: 8.
     NoMemory,
     /// The input of `answer` ended inside a message, or what came back to `passback` before it was whole: 9.
     CutShort,
+    /// The journal has no room for the id of `issue`: 10.
+    JournalFull,
     /// The id of `issue` was issued before: 11.
     AlreadyIssued,
+    /// The disk is smaller than the journal's two halves: 13.
+    JournalTooSmall,
     /// Input that a command doesn't take, or an answer to `passback` without a reading: 14.
     Refused,
     /// What came back to `passback` says that the grade wasn't taken: 15.
@@ -46,9 +54,13 @@ impl Status {
             Status::Settings => 3,
             Status::ReadFault => 4,
             Status::WriteFault => 5,
+            Status::DiskFault => 6,
+            Status::DamagedJournal => 7,
             Status::NoMemory => 8,
             Status::CutShort => 9,
+            Status::JournalFull => 10,
             Status::AlreadyIssued => 11,
+            Status::JournalTooSmall => 13,
             Status::Refused => 14,
             Status::NotSuccess => 15,
             Status::NoPlacement => 16,
@@ -67,9 +79,13 @@ impl Status {
             Status::Settings => "settings",
             Status::ReadFault => "read fault",
             Status::WriteFault => "write fault",
+            Status::DiskFault => "disk fault",
+            Status::DamagedJournal => "damaged journal",
             Status::NoMemory => "want of memory",
             Status::CutShort => "cut short",
+            Status::JournalFull => "journal full",
             Status::AlreadyIssued => "already issued",
+            Status::JournalTooSmall => "journal too small",
             Status::Refused => "refused message",
             Status::NotSuccess => "not a success",
             Status::NoPlacement => "no such placement",
@@ -89,9 +105,13 @@ impl Status {
             3 => Status::Settings,
             4 => Status::ReadFault,
             5 => Status::WriteFault,
+            6 => Status::DiskFault,
+            7 => Status::DamagedJournal,
             8 => Status::NoMemory,
             9 => Status::CutShort,
+            10 => Status::JournalFull,
             11 => Status::AlreadyIssued,
+            13 => Status::JournalTooSmall,
             14 => Status::Refused,
             15 => Status::NotSuccess,
             16 => Status::NoPlacement,

@@ -15,3 +15,4 @@ pub mod AddLemmas
 pub mod KnownLemmas
 pub mod WindowLemmas
 pub mod TripleLemmas
+pub mod SizeLemmas

@@ -13,3 +13,4 @@ pub mod Placed
 pub mod Triples
 pub mod InsideNonces
 pub mod Laws
+pub mod Sizes

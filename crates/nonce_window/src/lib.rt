@@ -10,8 +10,6 @@ mod keys;
 mod laws;
 mod minute;
 mod nonces;
-#[cfg(test)]
-mod plain;
 mod rules;
 mod seconds;
 mod table;

@@ -1,7 +1,7 @@
 // The nonces of one key in one minute.
-ghost use Rattle.std.specs.Prelude.{◌≡◌, ◌<◌, ◌^◌, ◌-◌, ◌++◌, [], map, length, false, IsSome, OnOk, OnErr};
+ghost use Rattle.std.specs.Prelude.{◌≡◌, ◌<◌, ◌^◌, ◌+◌, ◌-◌, ◌++◌, ℕ, [], map, length, false, IsSome, OnOk, OnErr};
 ghost use Rattle.std.specs.BTreeMap.{get_by_text};
-ghost use Rattle.std.specs.List.{list_any, AllByRecursion};
+ghost use Rattle.std.specs.List.{list_any, sum_by, AllByRecursion};
 ghost use Rattle.std.specs.List.Sorted.{IsStrictlySortedBy};
 ghost use Rattle.std.specs.Map.{keys_of};
 ghost use Rattle.std.specs.String.{string_cmp};
@@ -9,8 +9,10 @@ ghost use Rattle.lti_machine.specs.Nonces.{same_stamp};
 ghost use Rattle.nonce_window.specs.Added.{IsAdded};
 ghost use Rattle.nonce_window.specs.Minutes.{stamps_at, stamps_of};
 ghost use Rattle.nonce_window.specs.Nonces.{plain_in, IsWithin};
+ghost use Rattle.nonce_window.specs.Sizes.{capped, entry_size};
 ghost use Rattle.nonce_window.specs.Triples.{plain_of};
 
+use crate::rules;
 use crate::seconds::Seconds;
 use crate::triple::Triple;
 use lti_outside::NoMemory;
@@ -116,6 +118,17 @@ fn list_nonce(
     Ok(())
 }
 
+// `size` with the bytes that a digest has for nonces of a key, or 2^64 - 1 where that is more.
+fn size_with(nonces: &BTreeMap<String, Seconds>, key: &str, size: u64) -> u64
+    ensures { (minute : ℕ) → result ≡ capped (size + sum_by entry_size (map (plain_in key.now minute) (stamps_of nonces.now.entries))) }
+{
+    let mut total = size;
+    for (nonce, seconds) in nonces {
+        total = seconds.size(rules::nonce_size(key, nonce.as_str()), total);
+    }
+    total
+}
+
 impl Minute {
     /// A minute without nonces.
     pub(crate) fn new(alloc: Global) -> Minute
@@ -163,6 +176,13 @@ impl Minute {
         ensures { OnOk result (map plain_of triples.new.items ≡ map plain_of triples.old.items ++ map (plain_in key.now minute) self.now) }
     {
         list_nonces(&self.nonces, alloc, key, minute, triples)
+    }
+
+    /// `size` with the bytes that a digest has for its nonces under a key, or 2^64 - 1 where that is more.
+    pub(crate) fn size(&self, key: &str, size: u64) -> u64
+        ensures { (minute : ℕ) → result ≡ capped (size + sum_by entry_size (map (plain_in key.now minute) self.now)) }
+    {
+        size_with(&self.nonces, key, size)
     }
 
     /// How many nonces it has, each counted at each of its seconds.

@@ -1,9 +1,10 @@
 // The nonces that may still be used again.
 ghost use Rattle.std.specs.Prelude.{◌≡◌, ◌<◌, ◌≤◌, ◌^◌, ◌-◌, ◌/◌, ◌&&◌, [], length, false, nat_le, filter, count_by, map, IfOk, OnOk, OnErr};
-ghost use Rattle.std.specs.List.{AllByRecursion};
+ghost use Rattle.std.specs.List.{sum_by, AllByRecursion};
 ghost use Rattle.lti_machine.specs.Nonces.{stands, is_live, is_of_key};
 ghost use Rattle.nonce_window.specs.Added.{IsAdded};
 ghost use Rattle.nonce_window.specs.Nonces.{plain};
+ghost use Rattle.nonce_window.specs.Sizes.{capped, entry_size};
 ghost use Rattle.nonce_window.specs.Triples.{plain_of};
 
 use crate::keys::Keys;
@@ -113,6 +114,14 @@ impl Nonces {
         let mut triples = Vec::new(alloc);
         table::list(&self.table, &self.keys, alloc, first, &mut triples)?;
         Ok(triples)
+    }
+
+    /// How many bytes a digest has for those whose timestamp is in the minute `first` or later, or 2^64 - 1 where they are
+    /// more.
+    pub(crate) fn size(&self, first: u64) -> u64
+        ensures { result ≡ capped (sum_by entry_size (filter (λ e. nat_le first (e.timestamp / 60)) self.now)) }
+    {
+        table::size(&self.table, &self.keys, first)
     }
 
     /// Forgets all whose timestamp is in an earlier minute than `first`.

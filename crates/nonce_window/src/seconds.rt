@@ -1,8 +1,9 @@
 // Some seconds of a minute.
-ghost use Rattle.std.specs.Prelude.{◌≡◌, ◌<◌, [], ◌∷◌, ◌++◌, nat_eq, false, IfOk, OnOk, if◌then◌else◌};
+ghost use Rattle.std.specs.Prelude.{◌≡◌, ◌<◌, ◌+◌, [], ◌∷◌, ◌++◌, nat_eq, false, IfOk, OnOk, if◌then◌else◌};
 ghost use Rattle.std.specs.Int.{bit_at};
-ghost use Rattle.std.specs.List.{list_any};
+ghost use Rattle.std.specs.List.{list_any, sum_by};
 ghost use Rattle.nonce_window.specs.Added.{IsAdded};
+ghost use Rattle.nonce_window.specs.Sizes.{capped};
 
 use lti_outside::NoMemory;
 use std::alloc::Global;
@@ -68,6 +69,20 @@ impl Seconds {
             push_where(is_set(bits, second), &mut seconds, second)?;
         }
         Ok(seconds)
+    }
+
+    /// `size` with `each` more for each of them, or 2^64 - 1 where that is more.
+    pub(crate) fn size(&self, each: u64, size: u64) -> u64
+        ensures { result ≡ capped (size + sum_by (λ _. each) self.now) }
+    {
+        let bits = self.bits;
+        let mut total = size;
+        for second in 0..60 {
+            if is_set(bits, second) {
+                total = total.saturating_add(each);
+            }
+        }
+        total
     }
 
     /// Adds a second that isn't among them.

@@ -1,6 +1,6 @@
 // The minutes in which keys have nonces, in an ordered tree.
 ghost use Rattle.std.specs.Prelude.{◌≡◌, ◌<◌, ◌≤◌, ◌^◌, ◌+◌, ◌-◌, ◌∷◌, ◌++◌, ℕ, map, true, slice_get, length, filter, nat_le, false, Some, IfSome, IfNone, IfOk, OnOk, OnErr, IsSome};
-ghost use Rattle.std.specs.List.{list_any, All, AllByRecursion};
+ghost use Rattle.std.specs.List.{list_any, sum_by, All, AllByRecursion};
 ghost use Rattle.std.specs.Map.{keys_of};
 ghost use Rattle.std.specs.BTreeMap.{get, IsOrdered};
 ghost use Rattle.lti_machine.specs.Nonces.{same_stamp};
@@ -8,6 +8,7 @@ ghost use Rattle.nonce_window.specs.Keys.{IsNumber};
 ghost use Rattle.nonce_window.specs.Nonces as nonces;
 ghost use Rattle.nonce_window.specs.Nonces.{IsTable, AreCounted, entries_of, place_cmp, total, AreWithin};
 ghost use Rattle.nonce_window.specs.Placed.{IsPlaced};
+ghost use Rattle.nonce_window.specs.Sizes.{capped, entry_size};
 ghost use Rattle.nonce_window.specs.Triples.{plain_of};
 
 use crate::keys::Keys;
@@ -147,6 +148,20 @@ pub(crate) fn list(
         }
     }
     Ok(())
+}
+
+/// How many bytes a digest has for the nonces from the minute `first` on, or 2^64 - 1 where they are more.
+pub(crate) fn size(table: &Table, keys: &Keys, first: u64) -> u64
+    requires { AllByRecursion (λ e. e.0.1 < length keys.now) table.now.entries }
+    ensures { result ≡ capped (sum_by entry_size (entries_of keys.now (filter (λ e. nat_le first e.0.0) table.now.entries))) }
+{
+    let mut total = 0;
+    for (place, minute) in table {
+        if first <= place.0 {
+            total = minute.size(keys.key(place.1), total);
+        }
+    }
+    total
 }
 
 /// How many of the `count` nonces of a key lie in the minute `last` or later, where all lie in the minute `first` or later.

@@ -1,10 +1,12 @@
 // The window of nonces.
-ghost use Rattle.std.specs.Prelude.{◌≡◌, ◌<◌, ◌≤◌, ◌^◌, ◌-◌, ◌/◌, ℕ, max, map, filter, nat_le, length, [], ◌++◌, false, None, IfSome, IfOk, OnOk, OnErr};
+ghost use Rattle.std.specs.Prelude.{◌≡◌, ◌<◌, ◌≤◌, ◌^◌, ◌+◌, ◌-◌, ◌/◌, ℕ, max, map, filter, nat_le, length, [], ◌++◌, false, None, IfSome, IfOk, OnOk, OnErr};
+ghost use Rattle.std.specs.List.{sum_by};
 ghost use Rattle.lti_machine.specs.Nonces as nonces;
 ghost use Rattle.lti_machine.specs.Used.{lives, used, used_of};
 ghost use Rattle.nonce_window.specs.Changes.{IsPut, IsAddedAt, IsSettled, passed};
 ghost use Rattle.nonce_window.specs.Fresh.{IsNext};
 ghost use Rattle.nonce_window.specs.Last.{with_last};
+ghost use Rattle.nonce_window.specs.Sizes.{capped, entry_size, size_of};
 ghost use Rattle.nonce_window.specs.Triples.{used_of_triple};
 ghost use Rattle.nonce_window.specs.Window.{Holds, IsReady};
 ghost use Rattle.nonce_window.specs.Words.{Says, Counts, HasRoom, Adds, Keeps, SameContents};
@@ -21,8 +23,8 @@ use std::marker::Model;
 ///
 /// Moments and timestamps are seconds since 1970-01-01 00:00:00 UTC. A nonce belongs to a key and a timestamp
 /// (RFC 5849 section 3.3). It is forgotten 91 minutes after its timestamp, counted by whole minutes since 1970.
-/// No call walks over the nonces: they are looked up in ordered trees, and counts stand beside them. A minute that
-/// has passed is taken out whole, once.
+/// No call but `live` and `live_size` walks over the nonces: they are looked up in ordered trees, and counts stand beside
+/// them. A minute that has passed is taken out whole, once.
 #[derive(Drop)]
 pub struct NonceWindow {
     alloc: Global,
@@ -249,6 +251,18 @@ impl NonceWindow {
         Ok(triples)
     }
 
+    /// How many bytes a digest has for the nonces of all keys that aren't forgotten at the moment `n`, which is at least `high`:
+    /// for each what `lti_machine::entry_len` gives of an entry of it that changes nothing, and five bytes more. It is
+    /// 2^64 - 1 where they are more. A nonce that was loaded twice counts once. It takes no memory, walks over all nonces
+    /// and reads only the lengths of their texts.
+    pub fn live_size(&self, n: u64) -> u64
+        requires { self.now.high ≤ n }
+        ensures { result ≡ size_of (used self.now.known n) }
+    {
+        let first = rules::first_minute(n);
+        size_with_last(&self.last, first, self.nonces.size(first))
+    }
+
     /// The greatest moment at which a nonce was admitted or loaded or to which the window was raised, or 0.
     pub fn high(&self) -> u64
         ensures { result ≡ self.now.high }
@@ -275,6 +289,19 @@ fn list_last(
     let triple = Triple::new(alloc, last.key.get(), last.timestamp, last.nonce.get())?;
     triples.push(triple)?;
     Ok(())
+}
+
+// `size` with the bytes that a digest has for the last nonce, if its timestamp is in the minute `first` or later; or 2^64 - 1
+// where that is more.
+fn size_with_last(last: &Option<Entry>, first: u64, size: u64) -> u64
+    ensures { result ≡ capped (size + sum_by entry_size (filter (λ e. nat_le first (e.timestamp / 60)) (with_last [] last.now))) }
+{
+    match last {
+        Some(last) if first <= last.timestamp / 60 => {
+            size.saturating_add(rules::nonce_size(last.key.get(), last.nonce.get()))
+        }
+        _ => size,
+    }
 }
 
 // Puts the last nonce into the tables. On `NoMemory` nothing has changed.

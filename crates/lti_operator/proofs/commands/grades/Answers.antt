@@ -1,15 +1,12 @@
-use Rattle.std.proofs.Common.{[], Err, None, refl, sym, ap, ◌∙◌, rules}
-use Rattle.gradebook.specs.Book.{Holds}
-use Rattle.lti_settings.specs.Ladder.Ladder.{own}
-use Rattle.lti_operator.specs.Own.{report_status}
+use Rattle.std.proofs.Common.{[], None, refl}
+use Rattle.lti_operator.specs.Ladder.Ladder.{no_journal, own}
+use Rattle.lti_operator.proofs.LadderLemmas.{over_what_was_read}
 use Rattle.lti_operator.proofs.commands.grades.Goals as goal
 
-pub returns-in-Ok-report : goal.returns-in-Ok-report
-returns-in-Ok-report g c =
-    let holds : Holds c.in-Ok.book [] = search rules in
-    λ source random. own None (refl, refl) [] refl (c.report.result, c.report.ensures [] holds, sym (ap report_status c.in-Ok-report.is))
+pub returns-in-Err : goal.returns-in-Err
+returns-in-Err g c = λ source random. let fails = c.in-Err.ensures.unmounted in
+    no_journal None (refl, refl) fails.fault fails.unmounted refl fails.status_is
 
-pub returns-in-Err-WriteFault : goal.returns-in-Err-WriteFault
-returns-in-Err-WriteFault g c =
-    let holds : Holds c.in-Ok.book [] = search rules in
-    λ source random. own None (refl, refl) [] refl (c.report.result, c.report.ensures [] holds, sym (ap report_status (c.in-Err-WriteFault.is ∙ ap Err c.in-Err-WriteFault.field-0-is)))
+pub returns : goal.returns
+returns g c = λ source random. own None (refl, refl) c.in-Ok.office c.in-Ok.ensures.mounted [] refl
+    (c.close.ensures, c.report-ended.result, over_what_was_read _ _ _ _ c.in-Ok.ensures.mounted c.book.result.now _ c.book.ensures.book c.report-ended.ensures, c.status_of.ensures)

@@ -1,18 +1,19 @@
 use Rattle.std.proofs.Common.{◌≡◌, Some, None, refl, rules}
 use Rattle.oauth_request.specs.Secret.{secret_in}
-use Rattle.lti_settings.specs.Ladder.Ladder.{no_settings, no_key, own}
+use Rattle.lti_operator.specs.Ladder.Ladder.{no_key, own}
+use Rattle.lti_operator.proofs.LadderLemmas.{unopened}
 use Rattle.lti_operator.proofs.commands.issue.Goals as goal
 
 pub returns-in-Err : goal.returns-in-Err
-returns-in-Err g c = λ link random. no_settings refl c.in-Err.none c.in-Err.ensures refl c.status.ensures
+returns-in-Err g c = λ link random. unopened _ _ _ _ _ _ refl refl c.in-Err.ensures.unopened
 
 pub returns-in_default : goal.returns-in_default
 returns-in_default g c =
-    let unknown : secret_in c.in-Ok.read.keys c.args.asked.now.key.now ≡ None = search rules in
-    λ link random. no_key (Some c.in-Ok.read) c.in-Ok.ensures unknown refl refl
+    let unknown : secret_in c.in-Ok.opened.0.keys c.args.asked.now.key.now ≡ None = search rules in
+    λ link random. no_key (Some c.in-Ok.opened.0) c.in-Ok.ensures.settings c.in-Ok.opened.1 c.in-Ok.ensures.mounted unknown refl c.close.ensures refl
 
 pub returns : goal.returns
 returns g c =
-    let knows : secret_in c.in-Ok.read.keys c.args.asked.now.key.now ≡ Some c.in-Some._known.now = search rules in
-    let issued = rw c.new-solo.ensures at c.issue_id.ensures in
-    λ link random. own (Some c.in-Ok.read) c.in-Ok.ensures c.in-Some._known.now knows (refl, c.issue_id.new.solo, issued)
+    let knows : secret_in c.in-Ok.opened.0.keys c.args.asked.now.key.now ≡ Some c.in-Some._secret.now = search rules in
+    λ link random. own (Some c.in-Ok.opened.0) c.in-Ok.ensures.settings c.in-Ok.opened.1 c.in-Ok.ensures.mounted c.in-Some._secret.now knows
+    (refl, c.issue_id-status.new.office, c.issue_id-status.ensures, c.close-2.ensures)

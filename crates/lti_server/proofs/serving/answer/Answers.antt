@@ -1,11 +1,20 @@
 use Rattle.std.proofs.Common.{[], Some, refl}
-use Rattle.lti_settings.specs.Ladder.Ladder.{no_settings, own}
+use Rattle.lti_operator.specs.Ladder.Ladder.{own}
+use Rattle.lti_operator.proofs.LadderLemmas.{unopened}
 use Rattle.lti_server.proofs.serving.answer.Goals as goal
 
 pub returns-in-Err : goal.returns-in-Err
-returns-in-Err g c = λ random. no_settings refl c.in-Err.none c.in-Err.ensures refl c.status.ensures
+returns-in-Err g c = λ random. unopened _ _ _ _ _ _ refl refl c.in-Err.ensures.unopened
 
-pub returns-in-Ok : goal.returns-in-Ok
-returns-in-Ok g c =
-    let served = rw c.new-solo.ensures at c.session.ensures in
-    λ random. own (Some c.in-Ok.read) c.in-Ok.ensures [] refl (record { accepted = c.session.new.solo; end = c.session.result; served = served; status_is = c.status-in-Ok.ensures })
+pub returns : goal.returns
+returns g c =
+    let mounted = c.in-Ok.ensures.mounted in
+    let served = c.session.ensures in
+    λ random. own (Some c.in-Ok.opened.0) c.in-Ok.ensures.settings c.in-Ok.opened.1 mounted [] refl (record {
+      to = c.session.new.machine;
+      end = c.session.result;
+      served = served;
+      history = c.a_run_serves.ensures c.in-Ok.opened.1 c.session.new.machine served.told served.answered mounted.keeps;
+      disk = c.close.ensures;
+      status_is = c.status-status.ensures;
+    })

@@ -1,9 +1,8 @@
-use Rattle.std.proofs.Common.{[], None, refl, rules}
+use Rattle.std.proofs.Common.{inr, refl, rules}
 use Rattle.lti_words.specs.Command.{IsCheck, AsksAnswer, IsIssue, IsLaunch, IsPassback, IsGrades, texts}
 use Rattle.lti_words.specs.Command.CommandValue.{check as check_command, answer as answer_command, issue as issue_command, launch as launch_command, passback as passback_command, grades as grades_command}
 use Rattle.lti_words.specs.CommandView.{check_of, issue_of, launch_of, passback_of, grades_of}
 use Rattle.lti_words.proofs.WordLemmas.{IsCheck-range}
-use Rattle.lti_settings.specs.Ladder.Ladder.{own}
 use Rattle.lti_server.specs.Doing.Ran.{does}
 use Rattle.lti_server.proofs.top.perform.Goals as goal
 
@@ -15,7 +14,7 @@ check-requires-clause-range g c =
 pub returns-in-Ok-Some-Check-clause-ran : goal.returns-in-Ok-Some-Check-clause-ran
 returns-in-Ok-Some-Check-clause-ran g c =
     let asked : IsCheck (texts c.args.words.now) (check_of c.in-Ok-Some-Check.asked) = search rules in
-    does (check_command (check_of c.in-Ok-Some-Check.asked)) asked (own None (refl, refl) [] refl c.check.ensures)
+    does (check_command (check_of c.in-Ok-Some-Check.asked)) asked (record { source = refl; disk = refl; judged = inr c.check.ensures })
 
 pub returns-in-Ok-Some-Answer-clause-ran : goal.returns-in-Ok-Some-Answer-clause-ran
 returns-in-Ok-Some-Answer-clause-ran g c =

@@ -1,8 +1,7 @@
-//! A window that keeps a list of all its entries and walks over it at each call, as the rules are written. The window is
-//! tried against it.
-use crate::rules;
-use lti_machine::{Entry, Verdict, is_inside};
-use lti_outside::NoMemory;
+// A window that keeps a list of all its entries and walks over it at each call, as the rules are written.
+use lti_machine::{Effect, Entry, Verdict, entry_len, is_inside};
+use lti_outside::{NoMemory, Text};
+use nonce_window::Triple;
 use std::alloc::Global;
 
 #[derive(Drop)]
@@ -61,8 +60,13 @@ impl PlainWindow {
         nonce: &str,
     ) -> Result<(), NoMemory> {
         if !self.stands(key, timestamp, nonce) {
-            self.entries
-                .push(rules::entry(self.alloc, key, timestamp, nonce)?)?;
+            self.entries.push(Entry {
+                moment: 0,
+                key: Text::new(self.alloc, key)?,
+                timestamp,
+                nonce: Text::new(self.alloc, nonce)?,
+                effect: Effect::Nothing,
+            })?;
         }
         self.raise(moment);
         Ok(())
@@ -74,6 +78,33 @@ impl PlainWindow {
 
     pub(crate) fn kept(&self, key: &str) -> u32 {
         self.live_count(key, self.highest)
+    }
+
+    /// The nonces that aren't forgotten at a moment, in order.
+    pub(crate) fn live(&self, now: u64) -> Result<Vec<Triple>, NoMemory> {
+        let mut triples = Vec::new(self.alloc);
+        for entry in &self.entries {
+            if entry.is_live(entry.key.get(), now) {
+                triples.push(Triple {
+                    key: entry.key.copy()?,
+                    timestamp: entry.timestamp,
+                    nonce: entry.nonce.copy()?,
+                })?;
+            }
+        }
+        triples.sort()?;
+        Ok(triples)
+    }
+
+    /// How many bytes their entries have, with five more for each.
+    pub(crate) fn live_size(&self, now: u64) -> u64 {
+        let mut size: u64 = 0;
+        for entry in &self.entries {
+            if entry.is_live(entry.key.get(), now) {
+                size = size.saturating_add(entry_len(entry)).saturating_add(5);
+            }
+        }
+        size
     }
 
     pub(crate) fn high(&self) -> u64 {
