@@ -8,7 +8,7 @@ use Rattle.lti_outside.proofs.DigitLemmas.{digits_small, decimal_parts}
 use Rattle.oauth_text.specs.Form.{IsForm}
 use Rattle.oauth_text.specs.Url.{UrlParts}
 use Rattle.score_decimal.proofs.WritingLemmas.{number_once}
-use Rattle.lti_words.specs.Command.{IsKey, IsName, CheckCommand, IsCheck, IsInRange, AsksAnswer, IssueCommand, IsIssue, LaunchCommand, IsLaunch, PassbackCommand, IsPassback, GradesCommand, IsGrades, CommandValue, IsCommand, AsksOnce, rounding_word, texts}
+use Rattle.lti_words.specs.Command.{IsKey, IsName, CheckCommand, IsCheck, IsInRange, AsksAnswer, IssueCommand, IsIssue, LaunchCommand, IsLaunch, PassbackCommand, IsPassback, GradesCommand, IsGrades, CommandValue, IsCommand, AsksOnce, AsksServe, ServingIsNoCommand, rounding_word, texts}
 use Rattle.lti_words.specs.Command.CommandValue.{check, answer, issue, launch, passback, grades}
 use Rattle.lti_words.specs.declared.command.Rounding.{Rounding}
 use Rattle.lti_words.specs.declared.command.Rounding.TheVariants.{Floor, Nearest, Ceiling}
@@ -86,6 +86,16 @@ IsPassback-length _ asked is = absurd is
 pub IsGrades-length : (ws : List (List ℕ)) (asked : GradesCommand) → IsGrades ws asked → length ws ≡ 3
 IsGrades-length (name ∷ rounding ∷ most ∷ []) asked is = refl
 IsGrades-length _ asked is = absurd is
+
+pub two : {X : Type 0} (ws : List X) (a b : X) → length ws ≡ 2 → a ≡ get_or ws 0 a → b ≡ get_or ws 1 b → ws ≡ a ∷ b ∷ []
+two [] a b len a_is b_is = absurd (cc)
+two (p ∷ []) a b len a_is b_is = absurd (cc)
+two (p ∷ q ∷ []) a b len a_is b_is = cc
+two (p ∷ q ∷ r ∷ ws) a b len a_is b_is = absurd (cc)
+
+pub AsksServe-length : (ws : List (List ℕ)) (at : List ℕ) → AsksServe ws at → length ws ≡ 2
+AsksServe-length (name ∷ word ∷ []) at is = refl
+AsksServe-length _ at is = absurd is
 
 -- the number of the words and of the first one's bytes together, another for each command
 abbrev kind_number : List (List ℕ) → ℕ
@@ -260,3 +270,31 @@ words_ask_once ws (check a) (check b) first second = ap check (IsCheck-once ws a
 words_ask_once ws (launch a) (launch b) first second = ap launch (IsLaunch-once ws a b first second)
 words_ask_once ws (passback a) (passback b) first second = ap passback (IsPassback-once ws a b first second)
 words_ask_once ws a b first second = absurd (omega (arith, apart ws a b first second))
+
+-- how many words a command has
+abbrev words_of : CommandValue → ℕ
+words_of answer = 1
+words_of (issue command) = 3
+words_of (grades command) = 3
+words_of (check command) = 5
+words_of (launch command) = 7
+words_of (passback command) = 6
+
+command_length : (ws : List (List ℕ)) (c : CommandValue) → IsCommand ws c → length ws ≡ words_of c
+command_length ws answer is = ap (λ (w : List (List ℕ)). length w) is
+command_length ws (issue command) is = IsIssue-length ws command is
+command_length ws (grades command) is = IsGrades-length ws command is
+command_length ws (check command) is = IsCheck-length ws command is
+command_length ws (launch command) is = IsLaunch-length ws command is
+command_length ws (passback command) is = IsPassback-length ws command is
+
+not_two : (c : CommandValue) → words_of c ≡ 2 → ⊥
+not_two answer is = absurd (omega (arith, is))
+not_two (issue command) is = absurd (omega (arith, is))
+not_two (grades command) is = absurd (omega (arith, is))
+not_two (check command) is = absurd (omega (arith, is))
+not_two (launch command) is = absurd (omega (arith, is))
+not_two (passback command) is = absurd (omega (arith, is))
+
+pub serving_is_no_command : ServingIsNoCommand
+serving_is_no_command ws at serves command is = not_two command (sym (command_length ws command is) ∙ AsksServe-length ws at serves)

@@ -151,6 +151,20 @@ IsCommand words (grades command) = IsGrades words command
 abbrev pub IsUsage : List (List ℕ) → Type 0
 IsUsage words = (command : CommandValue) → IsCommand words command → ⊥
 
+-- `serve ADDRESS`: two words, of which the second is any
+pub record IsServeWords (name word address : List ℕ) : Type 0 where
+  pub named : name ≡ codes "serve"
+  pub address_is : address ≡ word
+
+-- the words ask to serve at this address, which is for whoever listens there
+abbrev pub AsksServe : List (List ℕ) → List ℕ → Type 0
+AsksServe (name ∷ word ∷ []) address = IsServeWords name word address
+AsksServe _ address = ⊥
+
+-- Words that ask to serve ask for no command.
+abbrev pub ServingIsNoCommand : Type 0
+ServingIsNoCommand = (words : List (List ℕ)) (address : List ℕ) → AsksServe words address → IsUsage words
+
 -- the command is done by the settings
 abbrev pub uses_settings : CommandValue → Bool
 uses_settings (check command) = false

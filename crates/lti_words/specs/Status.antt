@@ -1,7 +1,7 @@
 -- How a run ends: the number of its end, which is the exit status, and the word that is printed for it (this project's own).
 use Rattle.std.specs.Prelude.{◌≡◌, ℕ, List, [], codes}
 use Rattle.lti_words.specs.declared.status.Status.{Status}
-use Rattle.lti_words.specs.declared.status.Status.TheVariants.{Done, Usage, Settings, ReadFault, WriteFault, DiskFault, DamagedJournal, NoMemory, CutShort, JournalFull, AlreadyIssued, JournalTooSmall, Refused, NotSuccess, NoPlacement, UnknownKey, NotIssued}
+use Rattle.lti_words.specs.declared.status.Status.TheVariants.{Done, Usage, Settings, ReadFault, WriteFault, DiskFault, DamagedJournal, NoMemory, CutShort, JournalFull, AlreadyIssued, DoorFault, JournalTooSmall, Refused, NotSuccess, NoPlacement, UnknownKey, NotIssued}
 
 abbrev pub number_of : Status → ℕ
 number_of Done = 0
@@ -15,6 +15,7 @@ number_of NoMemory = 8
 number_of CutShort = 9
 number_of JournalFull = 10
 number_of AlreadyIssued = 11
+number_of DoorFault = 12
 number_of JournalTooSmall = 13
 number_of Refused = 14
 number_of NotSuccess = 15
@@ -34,6 +35,7 @@ word_of NoMemory = codes "want of memory"
 word_of CutShort = codes "cut short"
 word_of JournalFull = codes "journal full"
 word_of AlreadyIssued = codes "already issued"
+word_of DoorFault = codes "door fault"
 word_of JournalTooSmall = codes "journal too small"
 word_of Refused = codes "refused message"
 word_of NotSuccess = codes "not a success"

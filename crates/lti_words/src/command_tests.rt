@@ -1,5 +1,6 @@
 //! The words of each command, right and wrong.
 use crate::command::{Command, Rounding, read_command};
+use crate::words_of_serve::read_serve;
 use std::alloc::Global;
 use std::process::Abort;
 use std::test::Fail;
@@ -229,5 +230,20 @@ fn keys_and_names_have_a_longest(rt: HostRuntime) -> Result<(), Fail> {
     assert!(rt; !is_usage(alloc, &["issue", &key, &id])?);
     assert!(rt; is_usage(alloc, &["issue", &long_key, &id])?);
     assert!(rt; is_usage(alloc, &["issue", &key, &long_id])?);
+    Ok(())
+}
+
+#[test]
+fn two_words_ask_to_serve(rt: HostRuntime) -> Result<(), Fail> {
+    let alloc = rt.alloc();
+    let asked = words(alloc, &["serve", "[::1]:8080"])?;
+    assert!(rt; read_serve(&asked) == Some("[::1]:8080"));
+    assert!(rt; read_command(alloc, &asked)?.is_none());
+    let alone = words(alloc, &["serve"])?;
+    assert!(rt; read_serve(&alone).is_none());
+    let more = words(alloc, &["serve", "::1", "8080"])?;
+    assert!(rt; read_serve(&more).is_none());
+    let other = words(alloc, &["issue", "::1"])?;
+    assert!(rt; read_serve(&other).is_none());
     Ok(())
 }

@@ -26,6 +26,8 @@ pub enum Status {
     JournalFull,
     /// The id of `issue` was issued before: 11.
     AlreadyIssued,
+    /// A door of `serve` failed, or its address can't be taken: 12.
+    DoorFault,
     /// The disk is smaller than the journal's two halves: 13.
     JournalTooSmall,
     /// Input that a command doesn't take, or an answer to `passback` without a reading: 14.
@@ -60,6 +62,7 @@ impl Status {
             Status::CutShort => 9,
             Status::JournalFull => 10,
             Status::AlreadyIssued => 11,
+            Status::DoorFault => 12,
             Status::JournalTooSmall => 13,
             Status::Refused => 14,
             Status::NotSuccess => 15,
@@ -85,6 +88,7 @@ impl Status {
             Status::CutShort => "cut short",
             Status::JournalFull => "journal full",
             Status::AlreadyIssued => "already issued",
+            Status::DoorFault => "door fault",
             Status::JournalTooSmall => "journal too small",
             Status::Refused => "refused message",
             Status::NotSuccess => "not a success",
@@ -111,6 +115,7 @@ impl Status {
             9 => Status::CutShort,
             10 => Status::JournalFull,
             11 => Status::AlreadyIssued,
+            12 => Status::DoorFault,
             13 => Status::JournalTooSmall,
             14 => Status::Refused,
             15 => Status::NotSuccess,
