@@ -56,9 +56,9 @@ use Rattle.lti_server.specs.Doing.{Own, Checked, Does, Ran, Survives, is_early}
 use Rattle.lti_server.specs.Doing.Ran.{no_memory, usage, does}
 use Rattle.lti_server.specs.Doing.Survives.{unmounted as leaves_all, mounted as leaves_history}
 use Rattle.lti_server.specs.Served.{end_status, service_of}
-use Rattle.lti_server.specs.Transcript.{IsServed}
-use Rattle.lti_server.specs.declared.session_end.SessionEnd.{SessionEnd}
-use Rattle.lti_server.specs.declared.session_end.SessionEnd.TheVariants as end
+use Rattle.lti_session.specs.Transcript.{IsServed}
+use Rattle.lti_session.specs.declared.session_end.SessionEnd.{SessionEnd}
+use Rattle.lti_session.specs.declared.session_end.SessionEnd.TheVariants as end
 
 -- ---- which end a number tells
 

@@ -9,10 +9,10 @@ use Rattle.lti_words.specs.declared.status.Status.{Status}
 use Rattle.lti_words.specs.declared.status.Status.TheVariants as ends
 use Rattle.lti_settings.specs.declared.settings.Settings.{Settings}
 use Rattle.lti_operator.specs.Ladder.{Passage}
-use Rattle.lti_server.specs.Exchange.{Service}
-use Rattle.lti_server.specs.Transcript.{IsServed}
-use Rattle.lti_server.specs.declared.session_end.SessionEnd.{SessionEnd}
-use Rattle.lti_server.specs.declared.session_end.SessionEnd.TheVariants as end
+use Rattle.lti_session.specs.Exchange.{Service}
+use Rattle.lti_session.specs.Transcript.{IsServed}
+use Rattle.lti_session.specs.declared.session_end.SessionEnd.{SessionEnd}
+use Rattle.lti_session.specs.declared.session_end.SessionEnd.TheVariants as end
 
 -- how a run ends whose connection ended so
 abbrev pub end_status : SessionEnd → Status

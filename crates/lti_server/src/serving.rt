@@ -1,34 +1,28 @@
 // The command `answer`: one connection, over the link.
 ghost use Rattle.lti_outside.specs.Limits.{IsSound};
 ghost use Rattle.lti_words.specs.Command.CommandValue.{answer as answer_command};
-ghost use Rattle.std.specs.Prelude.{ℕ, List, Option};
+ghost use Rattle.std.specs.Prelude.{◌≡◌, ℕ, List, Option};
 ghost use Rattle.lti_operator.specs.Ladder.{Ladder};
-ghost use Rattle.lti_server.specs.Served.{OwnAnswer};
+ghost use Rattle.lti_server.specs.Served.{OwnAnswer, end_status};
 
-use crate::session_end::SessionEnd;
-use crate::sessions::session;
 use lti_desk::a_run_serves;
 use lti_operator::open;
 use lti_outside::{Clock, Disk, Limits, Link, Source};
+use lti_session::{SessionEnd, session};
 use lti_words::Status;
 use std::alloc::Global;
 
-impl SessionEnd {
-    ghost use Rattle.std.specs.Prelude.{◌≡◌};
-    ghost use Rattle.lti_server.specs.Served.{end_status};
-
-    /// How a run ends that served one connection.
-    pub fn status(self) -> Status
-        ensures { result ≡ end_status self }
-    {
-        match self {
-            SessionEnd::Ended | SessionEnd::LimitReached => Status::Done,
-            SessionEnd::ReadFault => Status::ReadFault,
-            SessionEnd::WriteFault => Status::WriteFault,
-            SessionEnd::NoMemory => Status::NoMemory,
-            SessionEnd::CutShort => Status::CutShort,
-            SessionEnd::Refused(_) => Status::Refused,
-        }
+// How a run ends that served one connection, which ended so.
+fn status_of(end: SessionEnd) -> Status
+    ensures { result ≡ end_status end }
+{
+    match end {
+        SessionEnd::Ended | SessionEnd::LimitReached => Status::Done,
+        SessionEnd::ReadFault => Status::ReadFault,
+        SessionEnd::WriteFault => Status::WriteFault,
+        SessionEnd::NoMemory => Status::NoMemory,
+        SessionEnd::CutShort => Status::CutShort,
+        SessionEnd::Refused(_) => Status::Refused,
     }
 }
 
@@ -52,6 +46,6 @@ pub fn answer<S: Source, I: Link, D: Disk, C: Clock>(
         Ok(opened) => opened,
     };
     a_run_serves::<D>();
-    let status = session(alloc, ends, &mut office, &read, clock, limits).status();
-    (status, office.close())
+    let end = session(alloc, ends, &mut office, &read, clock, limits);
+    (status_of(end), office.close())
 }

@@ -1,5 +1,0 @@
-use Rattle.lti_server.proofs.CutLemmas.{cuts}
-use Rattle.lti_server.proofs.laws.cuts_do_not_matter.Goals as goal
-
-pub returns : goal.returns
-returns c = cuts

@@ -1,0 +1,9 @@
+pub mod State
+pub mod Room
+pub mod Exchange
+pub mod BeforeView
+pub mod Refusal
+pub mod Talk
+pub mod Transcript
+pub mod Plain
+pub mod Laws
