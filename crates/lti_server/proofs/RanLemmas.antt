@@ -1,5 +1,5 @@
 -- What a run's status tells of its words and of the faults that it met, and what it made of the disk.
-use Rattle.std.proofs.Common.{◌≡◌, ◌⊎◌, ◌<◌, ◌*◌, ℕ, Bool, true, false, true≢false, inl, inr, List, [], ◌∷◌, length, Option, None, Some, Result, Ok, Err, refl, sym, ap, ◌∙◌, subst, arith}
+use Rattle.std.proofs.Common.{◌≡◌, ◌⊎◌, ◌<◌, ◌*◌, ℕ, true, false, true≢false, inl, inr, List, [], ◌∷◌, length, Option, None, Some, Result, Ok, Err, refl, sym, ap, ◌∙◌, subst, arith}
 use Rattle.lti_outside.specs.Faults.{Rose}
 use Rattle.lti_outside.specs.Traffic.{Traffic, Fault, Moves}
 use Rattle.lti_outside.specs.DiskMoments.{LeavesOnly}
@@ -14,7 +14,6 @@ use Rattle.pox_outcomes.specs.declared.answer.Answer.{Answer}
 use Rattle.pox_outcomes.specs.declared.answer.Major.{Major}
 use Rattle.pox_outcomes.specs.declared.answer.Major.TheVariants as major
 use Rattle.lti_machine.specs.History.{Member, Leads}
-use Rattle.lti_machine.specs.declared.call.Call.{Call}
 use Rattle.lti_machine.specs.declared.entry.Entry.{Entry}
 use Rattle.lti_machine.specs.Rows.{rows_of}
 use Rattle.lti_machine.specs.declared.reply.Reply.{Reply}

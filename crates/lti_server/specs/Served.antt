@@ -1,5 +1,5 @@
 -- What a run of `answer` did as its own (this project's own).
-use Rattle.std.specs.Prelude.{◌≡◌, ℕ, List, Option, None, Some}
+use Rattle.std.specs.Prelude.{◌≡◌, ℕ, Option, None, Some}
 use Rattle.lti_outside.specs.declared.disk.Disk.{Ghosts}
 use Rattle.lti_outside.specs.declared.limits.Limits.{Limits}
 use Rattle.lti_desk.specs.Answering.{Answers}

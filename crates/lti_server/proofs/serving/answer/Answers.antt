@@ -9,12 +9,12 @@ returns-in-Err g c = λ random. unopened _ _ _ _ _ _ refl refl c.in-Err.ensures.
 pub returns : goal.returns
 returns g c =
     let mounted = c.in-Ok.ensures.mounted in
-    let served = c.end-session.ensures in
+    let served = c.session-end.ensures in
     λ random. own (Some c.in-Ok.opened.0) c.in-Ok.ensures.settings c.in-Ok.opened.1 mounted [] refl (record {
-      to = c.end-session.new.machine;
-      end = c.end-session.result;
+      to = c.session-end.new.machine;
+      end = c.session-end.result;
       served = served;
-      history = c.a_run_serves.ensures c.in-Ok.opened.1 c.end-session.new.machine served.told served.answered mounted.keeps;
+      history = c.a_run_serves.ensures c.in-Ok.opened.1 c.session-end.new.machine served.told served.answered mounted.keeps;
       disk = c.close.ensures;
       status_is = c.status_of.ensures;
     })
