@@ -3,6 +3,7 @@
 use super::*;
 use lti_machine::{Action, Reply, Solo};
 use lti_outside::{Bytes, FixedClock, Limits, MemoryLink, MemorySink, MemorySource};
+use lti_settings::Settings;
 use std::alloc::Global;
 use std::process::Abort;
 use std::test::Fail;
