@@ -5,8 +5,17 @@
 //! it, and a count of the calls that failed.
 #![tactic(auto)]
 
+mod accepting;
 mod door;
+mod lingering;
 mod memory_door;
+mod tcp_door;
+mod tcp_end;
+#[cfg(test)]
+mod tests;
 
+pub use accepting::Accepting;
 pub use door::{Door, DoorFault};
 pub use memory_door::MemoryDoor;
+pub use tcp_door::{SILENCE_SECONDS, TcpDoor};
+pub use tcp_end::TcpEnd;

@@ -1,0 +1,93 @@
+// A door on the network.
+ghost use Rattle.std.specs.Prelude.{◌≡◌, None};
+
+use crate::accepting::{Accepting, tried_at_once, tried_later};
+use crate::door::{Door, DoorFault};
+use crate::lingering::linger;
+use crate::tcp_end::TcpEnd;
+use std::io;
+use std::net::OpenStream;
+use std::time::{Clock, Duration};
+
+/// How many seconds a read or a write of a connection waits for its peer. A peer that falls silent holds a
+/// worker no longer than that.
+pub const SILENCE_SECONDS: u64 = 30;
+
+// How often one call of `next` accepts at most.
+const TRIES: u32 = 1_000_000;
+
+// How many milliseconds it waits where no connection came, or there is no room for one.
+const ROOM_MILLISECONDS: u64 = 10;
+
+/// A door on the network. It tells nothing of what comes through it but its faults.
+///
+/// Each connection sends small pieces at once (`TCP_NODELAY`), and its reads and writes wait at most
+/// `SILENCE_SECONDS`: one that waits longer is a fault of that connection alone. One that can't be set up so is
+/// dropped, and the next one is accepted.
+///
+/// `next` waits for a connection, and never answers that no more come. It accepts again at once after an error
+/// of a connection that was lost before it was accepted (`ConnectionAborted`, `ConnectionReset`, `TimedOut`,
+/// `HostUnreachable`, `NetworkUnreachable`, `NetworkDown`, `EPROTO`, `ENOPROTOOPT`, `EHOSTDOWN`, `ENONET`,
+/// `EOPNOTSUPP`) and of a call that was cut short (`Interrupted`), and 10 milliseconds later where no
+/// connection came (`WouldBlock`), where no file descriptor is left (`EMFILE`, `ENFILE`) and where there is no
+/// memory (`OutOfMemory`, `ENOBUFS`). Any other error is a fault of the door, as `EBADF`, `EINVAL` or `EPERM`,
+/// and so is a million connections in one call of which none was handed out.
+///
+/// `back` ends the connection: it says that no more is written, reads for a second, or 65,536 bytes, what the
+/// peer still sends, and drops it. So a peer that is still writing reads its answer before it learns of the end.
+#[derive(Drop)]
+pub struct TcpDoor<L: Accepting, C: Clock + Drop> {
+    listener: L,
+    clock: C,
+    faults: u64,
+}
+
+impl<L: Accepting, C: Clock + Drop> TcpDoor<L, C> {
+    /// A door through which the listener's connections come. The clock measures and waits the times above.
+    pub fn new(listener: L, clock: C) -> TcpDoor<L, C>
+        ensures { result.faults ≡ 0 }
+    {
+        TcpDoor {
+            listener,
+            clock,
+            faults: 0,
+        }
+    }
+}
+
+// Sets what each connection is to have.
+fn set_up<S: OpenStream>(stream: &S) -> io::Result<()> {
+    let silence = Some(Duration::from_secs(SILENCE_SECONDS));
+    stream.set_nodelay(true)?;
+    stream.set_read_timeout(silence)?;
+    stream.set_write_timeout(silence)
+}
+
+impl<L: Accepting, C: Clock + Drop> Door for TcpDoor<L, C> {
+    type End = TcpEnd<L::Stream>;
+
+    ghost standing = { λ d. record { roll = None; faults = d.faults } };
+
+    fn next(&mut self) -> Result<Option<TcpEnd<L::Stream>>, DoorFault> {
+        for _ in 0..TRIES {
+            match self.listener.accept() {
+                Ok(stream) => {
+                    if set_up(&stream).is_ok() {
+                        return Ok(Some(TcpEnd::new(stream)));
+                    }
+                }
+                Err(error) if tried_at_once(&error) => {}
+                Err(error) if tried_later(&error) => {
+                    self.clock.sleep(Duration::from_millis(ROOM_MILLISECONDS))
+                }
+                Err(_) => break,
+            }
+        }
+        self.faults = self.faults.saturating_add(1);
+        Err(DoorFault)
+    }
+
+    fn back(&mut self, end: TcpEnd<L::Stream>) {
+        linger(&mut end.into_stream(), &self.clock);
+    }
+}
