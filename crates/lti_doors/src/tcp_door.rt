@@ -1,5 +1,6 @@
 // A door on the network.
-ghost use Rattle.std.specs.Prelude.{◌≡◌, None};
+ghost use Rattle.std.specs.Prelude.{◌≡◌, None, IfOk, IfSome, IsSome, OnErr};
+ghost use Rattle.lti_doors.specs.Standing.{IsFresh, HandsOut, Fails};
 
 use crate::accepting::{Accepting, tried_at_once, tried_later};
 use crate::door::{Door, DoorFault};
@@ -43,9 +44,11 @@ pub struct TcpDoor<L: Accepting, C: Clock + Drop> {
 }
 
 impl<L: Accepting, C: Clock + Drop> TcpDoor<L, C> {
+    ghost use Rattle.lti_doors.specs.Tcp.{tcp_standing};
+
     /// A door through which the listener's connections come. The clock measures and waits the times above.
     pub fn new(listener: L, clock: C) -> TcpDoor<L, C>
-        ensures { result.faults ≡ 0 }
+        ensures { tcp_standing result ≡ record { roll = None; faults = 0 } }
     {
         TcpDoor {
             listener,
@@ -64,11 +67,17 @@ fn set_up<S: OpenStream>(stream: &S) -> io::Result<()> {
 }
 
 impl<L: Accepting, C: Clock + Drop> Door for TcpDoor<L, C> {
+    ghost use Rattle.lti_doors.specs.Tcp.{tcp_traffic, tcp_standing};
+
     type End = TcpEnd<L::Stream>;
 
-    ghost standing = { λ d. record { roll = None; faults = d.faults } };
+    ghost standing = { tcp_standing };
 
-    fn next(&mut self) -> Result<Option<TcpEnd<L::Stream>>, DoorFault> {
+    fn next(&mut self) -> Result<Option<TcpEnd<L::Stream>>, DoorFault>
+        ensures some { IfOk result (λ found. IfSome found (λ end. IsFresh (tcp_traffic end) × HandsOut (tcp_standing self.old) (tcp_standing self.new) (tcp_traffic end))) }
+        ensures always { IfOk result (λ found. IsSome found) }
+        ensures failed { OnErr result (Fails (tcp_standing self.old) (tcp_standing self.new)) }
+    {
         for _ in 0..TRIES {
             match self.listener.accept() {
                 Ok(stream) => {

@@ -14,9 +14,11 @@ pub struct TcpEnd<S: Read + Write> {
 }
 
 impl<S: Read + Write> TcpEnd<S> {
+    ghost use Rattle.lti_doors.specs.Tcp.{tcp_traffic};
+
     /// The end of a connection that nobody has used.
     pub fn new(stream: S) -> TcpEnd<S>
-        ensures { (result.read_faults ≡ 0) × (result.write_faults ≡ 0) }
+        ensures { tcp_traffic result ≡ record { told = None; read_faults = 0; write_faults = 0 } }
     {
         TcpEnd {
             stream,
@@ -34,7 +36,9 @@ impl<S: Read + Write> TcpEnd<S> {
 }
 
 impl<S: Read + Write> Outside for TcpEnd<S> {
-    ghost traffic = { λ e. record { told = None; read_faults = e.read_faults; write_faults = e.write_faults } };
+    ghost use Rattle.lti_doors.specs.Tcp.{tcp_traffic};
+
+    ghost traffic = { tcp_traffic };
 }
 
 impl<S: Read + Write> Source for TcpEnd<S> {
