@@ -1,6 +1,9 @@
--- Which errors of an `accept` are tried again. The numbers are those of Linux, and accept(2) tells what they mean.
-use Rattle.std.specs.Prelude.{ℕ, ℤ, pos, negsuc, Bool, true, false, ◌||◌, ◌==◌, List, [], ◌∷◌, Option, Some, None}
+-- What comes of an `accept`, and which of its errors are tried again. The numbers of errors are those of Linux, and
+-- accept(2) tells what they mean.
+use Rattle.std.specs.Prelude.{◌≡◌, ◌<◌, ◌⊎◌, ℕ, ℤ, pos, negsuc, Bool, true, false, ◌||◌, ◌==◌, List, [], ◌∷◌, ◌++◌, length, All, ⊤, Option, Some, None, Result, Ok, Err}
 use Rattle.std.specs.List.{list_any}
+use Rattle.std.specs.IoError.{error_kind, raw_os_error}
+use Rattle.std.specs.declared.io.Error.{Error}
 use Rattle.std.specs.declared.io.ErrorKind.{ErrorKind}
 use Rattle.std.specs.declared.io.ErrorKind.TheVariants.{ConnectionAborted, ConnectionReset, HostUnreachable, NetworkUnreachable, NetworkDown, Interrupted, TimedOut, WouldBlock, OutOfMemory}
 
@@ -39,3 +42,53 @@ is_tried_at_once kind number = is_lost_kind kind || is_numbered lost_numbers num
 
 abbrev pub is_tried_later : ErrorKind → Option ℤ → Bool
 is_tried_later kind number = is_short_kind kind || is_numbered short_numbers number
+
+-- an `accept` that fails so is followed by another
+abbrev pub is_tried_again : Error → Bool
+is_tried_again error =
+    is_tried_at_once (error_kind error) (raw_os_error error) || is_tried_later (error_kind error) (raw_os_error error)
+
+-- a connection came, or an error
+pub data Attempt : Type 0 where
+  came : Attempt
+  refused : Error → Attempt
+
+abbrev pub attempt_of : {S : Type 0} → Result S Error → Attempt
+attempt_of (Ok stream) = came
+attempt_of (Err error) = refused error
+
+-- this came of one more call, as far as a listener tells it: it may stop to tell, and then it tells nothing more
+abbrev pub Adds : Option (List Attempt) → Option (List Attempt) → Attempt → Type 0
+Adds None after attempt = after ≡ None
+Adds (Some before) None attempt = ⊤
+Adds (Some before) (Some after) attempt = after ≡ before ++ attempt ∷ []
+
+-- what came of the calls in between is as said, as far as a listener tells it
+abbrev pub Makes : Option (List Attempt) → Option (List Attempt) → (List Attempt → Type 0) → Type 0
+Makes None after IsSaid = after ≡ None
+Makes (Some before) None IsSaid = ⊤
+Makes (Some before) (Some after) IsSaid = (made : List Attempt) × (after ≡ before ++ made) × IsSaid made
+
+-- after such an attempt there is another: the connection could not be set up, or the error is tried again
+abbrev pub IsPassed : Attempt → Type 0
+IsPassed came = ⊤
+IsPassed (refused error) = is_tried_again error ≡ true
+
+-- so many attempts, and after each another
+abbrev pub PassesBy : ℕ → List Attempt → Type 0
+PassesBy n made = All IsPassed made × (length made ≡ n)
+
+-- a connection came at last, at most at the millionth attempt
+abbrev pub EndsInConnection : List Attempt → Type 0
+EndsInConnection made =
+    (passed : List Attempt) × (made ≡ passed ++ came ∷ []) × All IsPassed passed × (length passed < 1_000_000)
+
+-- an error came at last that is not tried again, at most at the millionth attempt
+abbrev pub EndsInError : List Attempt → Type 0
+EndsInError made =
+    (passed : List Attempt) × (error : Error) × (made ≡ passed ++ refused error ∷ []) × (is_tried_again error ≡ false)
+    × All IsPassed passed × (length passed < 1_000_000)
+
+-- a million attempts were made, or one ended in an error that is not tried again
+abbrev pub GivesUp : List Attempt → Type 0
+GivesUp made = PassesBy 1_000_000 made ⊎ EndsInError made

@@ -1,21 +1,29 @@
 // What a door on the network accepts connections from, and which of its errors are tried again.
-ghost use Rattle.std.specs.Prelude.{◌≡◌};
+ghost use Rattle.std.specs.Prelude.{◌≡◌, List, Option};
 ghost use Rattle.std.specs.IoError.{error_kind, raw_os_error};
-ghost use Rattle.lti_doors.specs.Accepting.{is_tried_at_once, is_tried_later};
+ghost use Rattle.lti_doors.specs.Accepting.{Attempt, Adds, attempt_of, is_tried_at_once, is_tried_later};
 
 use std::io::{self, ErrorKind, Read, Write};
 use std::net::{OpenStream, TcpListener, TcpStream};
 
-/// Something that connections are accepted from, as a `TcpListener`.
+/// Something that connections are accepted from, as a `TcpListener`, which tells nothing of them.
 pub trait Accepting: Drop {
     /// A connection.
-    type Stream: Read + Write + OpenStream + Send + Drop;
+    type Stream: Read + Write + OpenStream + Drop;
+
+    /// What came of the calls of `accept` so far, in order, where it tells that.
+    ghost attempts: { Self → Option (List Attempt) };
 
     /// Waits for the next connection.
-    fn accept(&mut self) -> io::Result<Self::Stream>;
+    fn accept(&mut self) -> io::Result<Self::Stream>
+        ensures { Adds (attempts self.old) (attempts self.new) (attempt_of result) };
 }
 
 impl Accepting for TcpListener {
+    ghost use Rattle.std.specs.Prelude.{None};
+
+    ghost attempts = { λ _. None };
+
     type Stream = TcpStream;
 
     fn accept(&mut self) -> io::Result<TcpStream> {

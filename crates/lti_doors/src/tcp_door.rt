@@ -1,5 +1,6 @@
 // A door on the network.
-ghost use Rattle.std.specs.Prelude.{◌≡◌, None, IfOk, IfSome, IsSome, OnErr};
+ghost use Rattle.std.specs.Prelude.{◌≡◌, None, IfOk, IfSome, IfNone, IsSome, OnSome, OnOk, OnErr};
+ghost use Rattle.lti_doors.specs.Accepting.{Makes, EndsInConnection, GivesUp};
 ghost use Rattle.lti_doors.specs.Standing.{IsFresh, HandsOut, Fails};
 
 use crate::accepting::{Accepting, tried_at_once, tried_later};
@@ -66,7 +67,32 @@ fn set_up<S: OpenStream>(stream: &S) -> io::Result<()> {
     stream.set_write_timeout(silence)
 }
 
-impl<L: Accepting, C: Clock + Drop> Door for TcpDoor<L, C> {
+// Accepts until a connection can be handed out, or none can be waited for any more.
+fn accept_next<L: Accepting, C: Clock>(listener: &mut L, clock: &C) -> Option<L::Stream>
+    ensures some { OnSome result (Makes (L.attempts listener.old) (L.attempts listener.new) EndsInConnection) }
+    ensures none { IfNone result (Makes (L.attempts listener.old) (L.attempts listener.new) GivesUp) }
+{
+    for _ in 0..TRIES {
+        match listener.accept() {
+            Ok(stream) => {
+                if set_up(&stream).is_ok() {
+                    return Some(stream);
+                }
+            }
+            Err(error) if tried_at_once(&error) => {}
+            Err(error) if tried_later(&error) => {
+                clock.sleep(Duration::from_millis(ROOM_MILLISECONDS))
+            }
+            Err(_) => return None,
+        }
+    }
+    None
+}
+
+impl<L: Accepting, C: Clock + Drop> Door for TcpDoor<L, C>
+where
+    L::Stream: Send,
+{
     ghost use Rattle.lti_doors.specs.Tcp.{tcp_traffic, tcp_standing};
 
     type End = TcpEnd<L::Stream>;
@@ -77,23 +103,16 @@ impl<L: Accepting, C: Clock + Drop> Door for TcpDoor<L, C> {
         ensures some { IfOk result (λ found. IfSome found (λ end. IsFresh (tcp_traffic end) × HandsOut (tcp_standing self.old) (tcp_standing self.new) (tcp_traffic end))) }
         ensures always { IfOk result (λ found. IsSome found) }
         ensures failed { OnErr result (Fails (tcp_standing self.old) (tcp_standing self.new)) }
+        ensures came { OnOk result (Makes (L.attempts self.old.listener) (L.attempts self.new.listener) EndsInConnection) }
+        ensures gave_up { OnErr result (Makes (L.attempts self.old.listener) (L.attempts self.new.listener) GivesUp) }
     {
-        for _ in 0..TRIES {
-            match self.listener.accept() {
-                Ok(stream) => {
-                    if set_up(&stream).is_ok() {
-                        return Ok(Some(TcpEnd::new(stream)));
-                    }
-                }
-                Err(error) if tried_at_once(&error) => {}
-                Err(error) if tried_later(&error) => {
-                    self.clock.sleep(Duration::from_millis(ROOM_MILLISECONDS))
-                }
-                Err(_) => break,
+        match accept_next(&mut self.listener, &self.clock) {
+            Some(stream) => Ok(Some(TcpEnd::new(stream))),
+            None => {
+                self.faults = self.faults.saturating_add(1);
+                Err(DoorFault)
             }
         }
-        self.faults = self.faults.saturating_add(1);
-        Err(DoorFault)
     }
 
     fn back(&mut self, end: TcpEnd<L::Stream>) {

@@ -67,7 +67,7 @@ fn after(alloc: Global, error: io::Error) -> Result<(bool, u64), Fail> {
     let mut coming = VecDeque::new(alloc);
     coming.push_back(Err(error))?;
     coming.push_back(Ok(FakeStream::new(0, 1, None)))?;
-    let mut door = TcpDoor::new(FakeListener { coming }, &clock);
+    let mut door = TcpDoor::new(FakeListener::new(alloc, coming), &clock);
     let is_handed_out = matches!(door.next(), Ok(Some(_)));
     Ok((is_handed_out, clock.slept.get()))
 }
@@ -120,7 +120,7 @@ fn connections_are_set_up(rt: HostRuntime) -> Result<(), Fail> {
         coming.push_back(Ok(FakeStream::new(0, 1, Some(call))))?;
     }
     coming.push_back(Ok(FakeStream::new(7, 1, None)))?;
-    let mut door = TcpDoor::new(FakeListener { coming }, &clock);
+    let mut door = TcpDoor::new(FakeListener::new(rt.alloc(), coming), &clock);
     let Ok(Some(end)) = door.next() else {
         return Err(Fail::from("no connection"));
     };

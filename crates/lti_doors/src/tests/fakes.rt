@@ -1,5 +1,9 @@
 // Stand-ins for a listener, its connections and a clock.
+ghost use Rattle.std.specs.Prelude.{◌≡◌};
+ghost use Rattle.lti_doors.specs.Accepting.{attempt_of};
+
 use crate::Accepting;
+use std::alloc::Global;
 use std::cell::Cell;
 use std::collections::VecDeque;
 use std::io::{self, ErrorKind, Read, Write};
@@ -97,20 +101,54 @@ impl OpenStream for FakeStream {
     }
 }
 
-// A listener to which these connections and errors come, and then none that it could give.
+// A listener to which these connections and errors come, and then none that it could give. It tells what came, as
+// long as there is memory for that.
 #[derive(Drop)]
 pub struct FakeListener {
-    pub coming: VecDeque<io::Result<FakeStream>>,
+    coming: VecDeque<io::Result<FakeStream>>,
+    made: Vec<Result<(), io::Error>>,
+    is_told: bool,
+}
+
+impl FakeListener {
+    pub fn new(alloc: Global, coming: VecDeque<io::Result<FakeStream>>) -> FakeListener {
+        FakeListener {
+            coming,
+            made: Vec::new(alloc),
+            is_told: true,
+        }
+    }
+
+    // The next one, and what is to be told of it.
+    fn take_next(&mut self) -> (io::Result<FakeStream>, Result<(), io::Error>)
+        ensures attempt { attempt_of result.1 ≡ attempt_of result.0 }
+        ensures told { (self.new.made ≡ self.old.made) × (self.new.is_told ≡ self.old.is_told) }
+    {
+        match self.coming.pop_front() {
+            Some(Ok(stream)) => (Ok(stream), Ok(())),
+            Some(Err(error)) => (Err(error), Err(error)),
+            None => {
+                let error = io::Error::from(ErrorKind::InvalidInput);
+                (Err(error), Err(error))
+            }
+        }
+    }
 }
 
 impl Accepting for FakeListener {
+    ghost use Rattle.std.specs.Prelude.{map, Some, None, if◌then◌else◌};
+    ghost use Rattle.lti_doors.specs.Accepting.{attempt_of};
+
     type Stream = FakeStream;
 
+    ghost attempts = { λ l. if l.is_told then Some (map attempt_of l.made.items) else None };
+
     fn accept(&mut self) -> io::Result<FakeStream> {
-        match self.coming.pop_front() {
-            Some(next) => next,
-            None => Err(io::Error::from(ErrorKind::InvalidInput)),
+        let (next, told) = self.take_next();
+        if self.made.push(told).is_err() {
+            self.is_told = false;
         }
+        next
     }
 }
 
@@ -121,7 +159,11 @@ pub struct LossyListener<'a> {
 }
 
 impl Accepting for LossyListener<'_> {
+    ghost use Rattle.std.specs.Prelude.{None};
+
     type Stream = FakeStream;
+
+    ghost attempts = { λ _. None };
 
     fn accept(&mut self) -> io::Result<FakeStream> {
         *self.accepted = self.accepted.saturating_add(1);
