@@ -3,7 +3,6 @@ use Rattle.std.proofs.Common.{◌≡◌, ◌<◌, ◌+◌, ◌||◌, inl, inr, �
 use Rattle.std.proofs.lemmas.List.Elements.{All-nil, All-push}
 use Rattle.std.specs.declared.io.Error.{Error}
 use Rattle.lti_doors.specs.Accepting.{Attempt, came, refused, Adds, Makes, IsPassed, PassesBy, EndsInConnection, GivesUp, is_tried_at_once, is_tried_later, is_tried_again}
-use Rattle.std.specs.IoError.{error_kind, raw_os_error}
 
 pub Makes-none : (a : Option (List Attempt)) → Makes a a (PassesBy 0)
 Makes-none None = refl
@@ -43,25 +42,16 @@ ends_in_error n error a b c below over =
 pub gives_up : (a b : Option (List Attempt)) → Makes a b (PassesBy 1_000_000) → Makes a b GivesUp
 gives_up a b = Makes-weaker (PassesBy 1_000_000) GivesUp (λ made by. inl by) a b
 
-first_holds : (p q : Bool) → p ≡ true → (p || q) ≡ true
-first_holds p q holds = rw holds refl
-
 second_holds : (p q : Bool) → q ≡ true → (p || q) ≡ true
 second_holds true q holds = refl
 second_holds false q holds = holds
 
-neither_holds : (p q : Bool) → p ≡ false → q ≡ false → (p || q) ≡ false
-neither_holds p q not_p not_q = rw not_p not_q
-
 -- an error that is tried again at once, later or not at all
-pub at_once : (error : Error) (answer : Bool) → answer ≡ is_tried_at_once (error_kind error) (raw_os_error error) → answer ≡ true → IsPassed (refused error)
-at_once error answer says holds =
-    first_holds (is_tried_at_once (error_kind error) (raw_os_error error)) (is_tried_later (error_kind error) (raw_os_error error)) (sym says ∙ holds)
+pub at_once : (error : Error) → is_tried_at_once error ≡ true → IsPassed (refused error)
+at_once error holds = rw holds refl
 
-pub later : (error : Error) (answer : Bool) → answer ≡ is_tried_later (error_kind error) (raw_os_error error) → answer ≡ true → IsPassed (refused error)
-later error answer says holds =
-    second_holds (is_tried_at_once (error_kind error) (raw_os_error error)) (is_tried_later (error_kind error) (raw_os_error error)) (sym says ∙ holds)
+pub later : (error : Error) → is_tried_later error ≡ true → IsPassed (refused error)
+later error holds = second_holds (is_tried_at_once error) (is_tried_later error) holds
 
-pub never : (error : Error) (one other : Bool) → one ≡ is_tried_at_once (error_kind error) (raw_os_error error) → one ≡ false → other ≡ is_tried_later (error_kind error) (raw_os_error error) → other ≡ false → is_tried_again error ≡ false
-never error one other says_one not_one says_other not_other =
-    neither_holds (is_tried_at_once (error_kind error) (raw_os_error error)) (is_tried_later (error_kind error) (raw_os_error error)) (sym says_one ∙ not_one) (sym says_other ∙ not_other)
+pub never : (error : Error) → is_tried_at_once error ≡ false → is_tried_later error ≡ false → is_tried_again error ≡ false
+never error not_at_once not_later = rw not_at_once not_later

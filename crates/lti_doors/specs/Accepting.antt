@@ -32,21 +32,21 @@ is_short_kind _ = false
 abbrev pub short_numbers : List ℕ
 short_numbers = 23 ∷ 24 ∷ 105 ∷ []
 
+-- the error has one of these numbers
 abbrev pub is_numbered : List ℕ → Option ℤ → Bool
 is_numbered numbers None = false
 is_numbered numbers (Some (pos number)) = list_any (λ n. number == n) numbers
 is_numbered numbers (Some (negsuc number)) = false
 
-abbrev pub is_tried_at_once : ErrorKind → Option ℤ → Bool
-is_tried_at_once kind number = is_lost_kind kind || is_numbered lost_numbers number
+abbrev pub is_tried_at_once : Error → Bool
+is_tried_at_once error = is_lost_kind (error_kind error) || is_numbered lost_numbers (raw_os_error error)
 
-abbrev pub is_tried_later : ErrorKind → Option ℤ → Bool
-is_tried_later kind number = is_short_kind kind || is_numbered short_numbers number
+abbrev pub is_tried_later : Error → Bool
+is_tried_later error = is_short_kind (error_kind error) || is_numbered short_numbers (raw_os_error error)
 
 -- an `accept` that fails so is followed by another
 abbrev pub is_tried_again : Error → Bool
-is_tried_again error =
-    is_tried_at_once (error_kind error) (raw_os_error error) || is_tried_later (error_kind error) (raw_os_error error)
+is_tried_again error = is_tried_at_once error || is_tried_later error
 
 -- a connection came, or an error
 pub data Attempt : Type 0 where
@@ -57,7 +57,7 @@ abbrev pub attempt_of : {S : Type 0} → Result S Error → Attempt
 attempt_of (Ok stream) = came
 attempt_of (Err error) = refused error
 
--- this came of one more call, as far as a listener tells it: it may stop to tell, and then it tells nothing more
+-- this came of one more call, as far as a listener tells it; it may stop telling, and then tells nothing any more
 abbrev pub Adds : Option (List Attempt) → Option (List Attempt) → Attempt → Type 0
 Adds None after attempt = after ≡ None
 Adds (Some before) None attempt = ⊤

@@ -1,6 +1,5 @@
 // What a door on the network accepts connections from, and which of its errors are tried again.
 ghost use Rattle.std.specs.Prelude.{◌≡◌, List, Option};
-ghost use Rattle.std.specs.IoError.{error_kind, raw_os_error};
 ghost use Rattle.lti_doors.specs.Accepting.{Attempt, Adds, attempt_of, is_tried_at_once, is_tried_later};
 
 use std::io::{self, ErrorKind, Read, Write};
@@ -11,7 +10,7 @@ pub trait Accepting: Drop {
     /// A connection.
     type Stream: Read + Write + OpenStream + Drop;
 
-    /// What came of the calls of `accept` so far, in order, where it tells that.
+    /// What came of the calls of `accept` so far, in order, where it tells that. It may stop telling.
     ghost attempts: { Self → Option (List Attempt) };
 
     /// Waits for the next connection.
@@ -22,9 +21,9 @@ pub trait Accepting: Drop {
 impl Accepting for TcpListener {
     ghost use Rattle.std.specs.Prelude.{None};
 
-    ghost attempts = { λ _. None };
-
     type Stream = TcpStream;
+
+    ghost attempts = { λ _. None };
 
     fn accept(&mut self) -> io::Result<TcpStream> {
         let (stream, _) = TcpListener::accept(self)?;
@@ -53,7 +52,7 @@ const ENOBUFS: i32 = 105;
 
 // Whether the connection alone was lost, or the call was cut short.
 pub(crate) fn tried_at_once(error: &io::Error) -> bool
-    ensures { result ≡ is_tried_at_once (error_kind error.now) (raw_os_error error.now) }
+    ensures { result ≡ is_tried_at_once error.now }
 {
     match error.kind() {
         ErrorKind::ConnectionAborted
@@ -72,7 +71,7 @@ pub(crate) fn tried_at_once(error: &io::Error) -> bool
 
 // Whether no connection came, or there is no room for one now.
 pub(crate) fn tried_later(error: &io::Error) -> bool
-    ensures { result ≡ is_tried_later (error_kind error.now) (raw_os_error error.now) }
+    ensures { result ≡ is_tried_later error.now }
 {
     match error.kind() {
         ErrorKind::WouldBlock | ErrorKind::OutOfMemory => true,

@@ -33,7 +33,7 @@ const ROOM_MILLISECONDS: u64 = 10;
 /// `EOPNOTSUPP`) and of a call that was cut short (`Interrupted`), and 10 milliseconds later where no
 /// connection came (`WouldBlock`), where no file descriptor is left (`EMFILE`, `ENFILE`) and where there is no
 /// memory (`OutOfMemory`, `ENOBUFS`). Any other error is a fault of the door, as `EBADF`, `EINVAL` or `EPERM`,
-/// and so is a million connections in one call of which none was handed out.
+/// and so are a million attempts in one call without a connection to hand out.
 ///
 /// `back` ends the connection: it says that no more is written, reads for a second, or 65,536 bytes, what the
 /// peer still sends, and drops it. So a peer that is still writing reads its answer before it learns of the end.

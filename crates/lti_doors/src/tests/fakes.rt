@@ -101,7 +101,7 @@ impl OpenStream for FakeStream {
     }
 }
 
-// A listener to which these connections and errors come, and then none that it could give. It tells what came, as
+// A listener to which these connections and errors come, and then an error that ends a door. It tells what came, as
 // long as there is memory for that.
 #[derive(Drop)]
 pub struct FakeListener {
